@@ -143,25 +143,35 @@ def back_fault(older, newer, earlier):
 
 
 def origin_fault(image, sources, count):
-    """Whether a byte of the whole lines in front of a change, or behind it, comes from elsewhere than before, or nothing."""
+    """Whether a byte of the longest front that two texts have in common, or of the longest back of what is left, comes from elsewhere than before, or
+    nothing."""
     texts = verify.all_texts(image, sources)
     last, before = len(texts) - 1, count - 1
     if max(map(len, texts)) > LONGEST_FOLLOWED:
         return None
     origins = origins_of(image, sources)
-    front = texts[last].rfind(b"\n", 0, front_of(texts[before], texts[last])) + 1
+    front = front_of(texts[before], texts[last])
     back = min(front_of(texts[before][::-1], texts[last][::-1]), min(len(texts[before]), len(texts[last])) - front)
-    rest = texts[last][len(texts[last]) - back :]
-    back = len(rest) - rest.find(b"\n") - 1 if b"\n" in rest else 0
     if origins[before][:front] != origins[last][:front] or back and origins[before][-back:] != origins[last][-back:]:
         return "bytes that stayed come from elsewhere"
     return None
 
 
-def committed_fault(room, state, older, answer, is_own=True):
-    """What is wrong with what a commit did behind the older image, which the program made itself or not, or nothing."""
+def told_of(room, older, answer):
+    """What a commit tells of the older image's last text, which was not committed from the file."""
+    texts = verify.all_texts(verify.checked(older, room.sources), room.sources)
+    if not texts or not texts[-1] or answer.startswith(b"same"):
+        return b""
+    last, image, file = len(texts) - 1, room.image, os.path.join(room.folder, "file")
+    told = f"revision {last} of {image} was not committed from {file}: what it had and {file} has not is taken out, "
+    return f"{told}and cordkit show {image} {last} still gives it\n".encode()
+
+
+def committed_fault(room, state, older, answer, is_own=True, is_known=True):
+    """What is wrong with what a commit did behind the older image, which the program made itself or not, and whose last text was committed from the file
+    or not, or nothing."""
     told = ANSWER.fullmatch(answer[1])
-    if answer[0] or answer[2] or not told:
+    if answer[0] or not told or answer[2] != (b"" if is_known else told_of(room, older, answer[1])):
         return f"{answer}"
     data = room.image_bytes()
     image = verify.checked(data, room.sources)
@@ -240,7 +250,7 @@ def image_fault(room, data, chance):
     texts = verify.all_texts(image, room.sources)
     for number, state in enumerate([next_state(chance, texts[-1] if texts else b""), b"another\n", b"one more\n"]):
         older = room.image_bytes()
-        fault = committed_fault(room, state, older, room.commit(state), number > 1)
+        fault = committed_fault(room, state, older, room.commit(state), number > 1, number > 0)
         if fault:
             return fault
     return None
@@ -282,6 +292,11 @@ def begin(room, state):
     return room.image_bytes()
 
 
+def is_tidy(folder):
+    """Whether there is nothing but the file, the image, and which file the image's last text was committed from."""
+    return sorted(os.listdir(folder)) == ["file", "image", "image.committed"]
+
+
 def run_killed(given):
     """A commit is killed before each call of this name; the same command again finishes it."""
     program, call, first = given
@@ -296,7 +311,7 @@ def run_killed(given):
             if room.image_bytes() not in (older, newer):
                 return "killed", 0, 0, f"killed at {call} {number}: an image that is neither"
             again = room.commit(b"second\n")
-            if again[0] or room.image_bytes() != newer or sorted(os.listdir(folder)) != ["file", "image"]:
+            if again[0] or room.image_bytes() != newer or not is_tidy(folder):
                 return "killed", 0, 0, f"killed at {call} {number}: {again}, {os.listdir(folder)}"
             if killed.returncode >= 0:
                 return "killed", 0, 0, None
@@ -322,7 +337,7 @@ def run_failing(given):
             if there not in (older, newer) or failed.returncode == 0 and there != newer:
                 return "failing", 0, 0, f"{call} {number} failed: {failed.returncode} {failed.stderr}, another image"
             again = room.commit(b"second\n")
-            if again[0] or room.image_bytes() != newer or sorted(os.listdir(folder)) != ["file", "image"]:
+            if again[0] or room.image_bytes() != newer or not is_tidy(folder):
                 return "failing", 0, 0, f"{call} {number} failed: {failed.returncode} {failed.stderr}, then {again}, {os.listdir(folder)}"
     return "failing", 0, 0, f"{call}: without end"
 

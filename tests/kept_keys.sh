@@ -126,8 +126,9 @@ watched() {
     clean; ready image; await shows leaves; is 'a first screen' "$(row)" 'rev 0 byte 0 of 0 image  Ctrl-X saves  Ctrl-C leaves'
     type_text a; await shows 'rev 1'; is 'until the first key' "$(row)" 'rev 1 byte 1 of 1'
     printf '\303\251\200' > bytes; paste bytes; await shows 'taken: 3'; is 'typed bytes' "$(row)" 'rev 1 byte 1 of 1 bytes not taken: 3'
-    type_text b; await shows 'rev 2'; is 'until the next key' "$(row)" 'rev 2 byte 2 of 2'
-    printf 'c\303\251' > bytes; in_tmux load-buffer -b k bytes; in_tmux paste-buffer -p -r -d -b k; await shows taken; is 'pasted bytes' "$(row)" 'rev 3 byte 3 of 3 bytes not taken: 2'
+    type_text b; await shows 'rev 2'; is 'and over what is typed behind them' "$(row)" 'rev 2 byte 2 of 2 bytes not taken: 3'
+    keys Left; await shows 'byte 1'; is 'until another key' "$(row)" 'rev 2 byte 1 of 2'; keys Right; await shows 'byte 2'
+    printf '\303\251c' > bytes; in_tmux load-buffer -b k bytes; in_tmux paste-buffer -p -r -d -b k; await shows taken; is 'pasted bytes' "$(row)" 'rev 3 byte 3 of 3 bytes not taken: 2'
     kill -s TSTP "$(cat wrapper)"; await is_stopped; kill -s CONT "$(cat wrapper)"; await shows taken; is 'and behind a stop' "$(row)" 'rev 3 byte 3 of 3 bytes not taken: 2'
     keys C-x; ended; is 'saved' "$(cat status) $(text)" '0 restored abc'
     clean; ready image; in_tmux pipe-pane 'cat > frames'; head -c 9712 /dev/zero | tr '\0' x > typed; paste typed; await shows 'rev 9712'; in_tmux pipe-pane
@@ -148,6 +149,8 @@ few_rows() {
     done
     size='-x 80 -y 23'; ready image file; in_tmux resize-window -x 80 -y 30; await shows 23; in_tmux resize-window -x 80 -y 10; sleep 0.3; await shows leaves; is 'after a change' "$(at_cursor) $(in_tmux capture-pane -p | wc -l)" '1 10'
     keys C-c; ended; size='-x 80 -y 24'; rm -f file; clean
+    clean; size='-x 80 -y 24'; ready image; await shows leaves; type_text a; await shows 'rev 1'; in_tmux resize-window -x 80 -y 2; await shows fewer
+    in_tmux resize-window -x 80 -y 12; await shows 'rev 1'; keys C-x; ended; is 'saved once, behind a window that was too small' "$(cat status) $(text)" '0 restored a'; clean
 }
 
 options() {
@@ -476,7 +479,7 @@ at_once() {
         clean; [ "$begun" = nothing ] || printf 'old\030' | "$CORDKIT" edit image > /dev/null
         for n in $numbers; do
             echo "text $n" > "texts/$n"
-            { "$CORDKIT" commit image "texts/$n" > "texts/$n.said" 2>&1; echo $? >> "texts/$n.said"; } &
+            { "$CORDKIT" commit image "texts/$n" > "texts/$n.said" 2> "texts/$n.told"; echo $? >> "texts/$n.said"; } &
         done
         wait
         lost=''
@@ -484,7 +487,7 @@ at_once() {
             read -r said revision < "texts/$n.said"
             [ "$said $(tail -n 1 "texts/$n.said")" = 'committed 0' ] && "$CORDKIT" show image "$revision" | cmp -s - "texts/$n" || lost="$lost $n: $(cat "texts/$n.said")"
         done
-        is "$begun: twenty commits at once" "$lost $(sort -u texts/*.said | grep -c committed) $(files)" ' 20 image'
+        is "$begun: twenty commits at once" "$lost $(sort -u texts/*.said | grep -c committed) $(files)" ' 20 image image.committed'
     done
     clean
     for n in $numbers; do { printf "%s\\030" "$n" | "$CORDKIT" edit image > /dev/null 2> "texts/$n.said"; echo $? >> "texts/$n.said"; } & done
@@ -493,9 +496,9 @@ at_once() {
     rm -r texts
     if command -v flock > /dev/null; then
         clean; printf abc > saving; : > image.new; flock image.new sleep 1 & flock -w 1 image.new true; "$CORDKIT" commit image saving > A.said 2>&1
-        is 'a commit waits for another run' "$? $(cat A.said) $(files)" '0 committed 1 image'; wait
+        is 'a commit waits for another run' "$? $(cat A.said) $(files)" '0 committed 1 image image.committed'; wait
         : > image.new; printf 'x\030' > typed; flock image.new "$CORDKIT" edit image < typed > /dev/null 2> A.said; is 'and an edit, as long as that' "$? $(cat A.said) $(text)" '3 write abc'
-        printf abcd > saving; flock image.new "$CORDKIT" commit image saving > A.said 2>&1; is 'a commit behind a run that does not end' "$? $(cat A.said) $(text) $(files)" '1 refused J4 abc image image.new'
+        printf abcd > saving; flock image.new "$CORDKIT" commit image saving > A.said 2>&1; is 'a commit behind a run that does not end' "$? $(cat A.said) $(text) $(files)" '1 refused J4 abc image image.committed image.new'
     fi
     clean
 }

@@ -381,6 +381,11 @@ changed() {
     printf '%s\\n' "$1 is not the file that $2 was made from: its digest is not the one in $2.sources. cordedit --copy keeps a copy of the file beside the image"
 }
 
+# What a commit tells of a text that was not committed from its file.
+other() {
+    printf '%s\\n' "revision $1 of $2 was not committed from $3: what it had and $3 has not is taken out, and cordkit show $2 $1 still gives it"
+}
+
 # Digests of sources beside an image: who writes them, and who tells that a source has other bytes.
 try_sources() {
     printf abd > abd
@@ -427,19 +432,19 @@ try_sources() {
     try 'half a terabyte in their place' 'check made abd' '' 0 "$one" ''
     : > made.sources
     try 'nothing in their place' 'check made abd' '' 0 "$one" ''
-    try 'a commit over a file' 'commit made ab abc' '' 0 'committed 1\n' ''
+    try 'a commit over a file' 'commit made ab abc' '' 0 'committed 1\n' "$(other 0 made ab)"
     is 'its digest is written' "$(cat made.sources)" "$(line_over abc)"
-    try 'a commit over a file of other bytes' 'commit made abcde abd' '' 0 'committed 2\n' "$(changed abd made)"
-    is 'and stays' "$(cat made.sources) $(ls made*)" "$(line_over abc) $(printf 'made\nmade.sources')"
+    try 'a commit over a file of other bytes' 'commit made abcde abd' '' 0 'committed 2\n' "$(changed abd made)$(other 1 made abcde)"
+    is 'and stays' "$(cat made.sources) $(ls made*)" "$(line_over abc) $(printf 'made\nmade.committed\nmade.sources')"
     rm made.sources
     try 'the same text' 'commit made abcde abc' '' 0 'same 2\n' ''
-    is 'writes nothing' "$(ls made*)" made
+    is 'writes nothing' "$(ls made*)" "$(printf 'made\nmade.committed')"
     printf 'open 0\nopen 1\n' > script_of_two_files
     "$program" apply script_of_two_files ab abc > made
-    try 'a commit over two files' 'commit made abcde ab abc' '' 0 'committed 2\n' ''
+    try 'a commit over two files' 'commit made abcde ab abc' '' 0 'committed 2\n' "$(other 1 made abcde)"
     is 'a line of each' "$(cat made.sources)" "$(line_over ab && line_over abc)"
     try 'the second has other bytes' 'check made ab abd' '' 0 "$("$program" check made ab abc)\n" "$(changed abd made)"
-    rm made made.sources
+    rm made made.committed made.sources
     try 'a session over no file' 'edit made' key_save 0 "$("$program" edit unsaved < /dev/null)" ''
     is 'has no digests' "$(ls made*)" made
     rm made
@@ -461,6 +466,33 @@ try_sources() {
     is 'the digest of its ends' "$(cat made.sources)" "$(line_over of_20000000 one_end one_end)"
     try 'another byte at an end' 'check made byte_at_the_end' '' 0 "$one" "$(changed byte_at_the_end made)"
     try 'another byte between them' 'check made byte_between' '' 0 "$one" ''
+}
+
+# The file of the last commit beside an image: who writes it, and when a commit tells that the last text came from elsewhere.
+try_last_commits() {
+    rm -f made made.*
+    cp abc note && try 'a first commit tells nothing' 'commit made note' '' 0 'committed 1\n' ''
+    is 'its file stands beside the image' "$(cat made.committed)" "$(stat -c %s made) note"
+    cp abcde note && try 'nor does the next one' 'commit made note' '' 0 'committed 2\n' ''
+    is 'of the image as it is now' "$(cat made.committed)" "$(stat -c %s made) note"
+    printf 'insert 2 0 "typed"\n' > script_behind && "$program" apply --onto made script_behind > further && cp further made
+    try 'a text that a script made is taken out' 'commit made note' '' 0 'committed 4\n' "$(other 3 made note)"
+    try 'and shown still' 'show made 3' '' 0 typedabcde ''
+    try 'a file of another name' 'commit made abc' '' 0 'committed 5\n' "$(other 4 made abc)"
+    ln -s abc note_too && try 'a link to a file of that name' 'commit made note_too' '' 0 'same 5\n' ''
+    try 'a text that was the last one is restored' 'restore made last note' '' 0 'committed 6\n' "$(other 5 made note)"
+    cp ab note && try 'and gone on from' 'commit made note' '' 0 'committed 7\n' ''
+    printf 'a list\n' > made.committed && cp abc note
+    try 'something else stands there' 'commit made note' '' 0 'committed 8\n' "$(other 7 made note)"
+    is 'and stays' "$(cat made.committed) $(ls made*)" "$(printf 'a list made\nmade.committed')"
+    rm made.committed && cp ab note && try 'nothing stands there' 'commit made note' '' 0 'committed 9\n' "$(other 8 made note)"
+    mkdir made.committed.new && cp abc note && try 'it cannot be written' 'commit made note' '' 0 'committed 10\n' ''
+    rmdir made.committed.new && cp ab note && try 'so that is told' 'commit made note' '' 0 'committed 11\n' "$(other 10 made note)"
+    cp made.committed before && try 'an image that is replaced' 'edit made' key_save 0 "$("$program" edit unsaved < /dev/null)" \
+        "the image that was there is kept as $(pwd -P)/made.saved-1\n"
+    is 'has it by its other name' "$(ls made*)" "$(printf 'made\nmade.saved-1\nmade.saved-1.committed')"
+    is 'as it was' "$(cat made.saved-1.committed)" "$(cat before)"
+    rm -f made made.* note note_too further before
 }
 
 # What is longer than a pipe holds, into one whose reader goes.
@@ -561,10 +593,11 @@ if [ "$cases" = all ]; then
     try_terminals
     try_version
     try_sources
+    try_last_commits
     try_cut_file 'a file in lines of 60 that is cut behind a frame' 60 51
     try_cut_file 'a file in lines of 48 that is cut behind a frame' 48 64
     if command -v flock > /dev/null; then
-        try "keys that another session keeps" "edit --explain --keep keys_in_use kept" keys_saved 1 "" "refused J2\nJ2: another session keeps its keys in keys_in_use\n"
+        try "keys that another session keeps" "edit --explain --keep keys_in_use kept" keys_saved 1 "" "refused J2\nJ2: a session keeps its keys in keys_in_use, and has not saved them\n"
     else
         echo "LEFT OUT: keys that another session keeps: there is no flock here"
     fi
@@ -767,12 +800,12 @@ the image is that of an empty text and the file's;check committed;;0;accepted 2 
 a committed text is shown;show committed 1;;0;abc;
 the text before it is empty;show committed 0;;0;;
 the text that it has already;commit committed abc;;0;same 1\n;
-another text behind it;commit committed abcde;;0;committed 2\n;
+another text behind it;commit committed abcde;;0;committed 2\n;revision 1 of committed was not committed from abcde: what it had and abcde has not is taken out, and cordkit show committed 1 still gives it\n
 that one is shown;show committed 2;;0;abcde;
 the earlier one is shown still;show committed 1;;0;abc;
 what stays keeps its origin;blame --count 3 committed 2;;0;0 3 1 0 many 0 "abc"\n;
 what came is of the commit;blame --start 3 committed 2;;0;3 2 2 3 many 1 "de"\n;
-an empty file is committed;commit committed nothing;;0;committed 3\n;
+an empty file is committed;commit committed nothing;;0;committed 3\n;revision 2 of committed was not committed from nothing: what it had and nothing has not is taken out, and cordkit show committed 2 still gives it\n
 its text is shown;show committed 3;;0;;
 a file by a pipe is committed;commit committed /dev/stdin;highest;0;committed 4\n;
 its bytes are shown;show committed 4;;0;@highest;
@@ -781,12 +814,12 @@ an empty file is committed anew;commit committed_of_nothing nothing;;0;committed
 an image of an empty text alone is made;check committed_of_nothing;;0;accepted 1 revisions 0 nodes 0 rows\n;
 more bytes than a command puts in, anew;commit committed_large large;;0;committed 46\n;
 they are shown;show committed_large 46;;0;@large;
-the image of another program is gone on from;commit $(cp one_insert committed_further && echo committed_further) abcde;;0;committed 2\n;
+the image of another program is gone on from;commit $(cp one_insert committed_further && echo committed_further) abcde;;0;committed 2\n;revision 1 of committed_further was not committed from abcde: what it had and abcde has not is taken out, and cordkit show committed_further 1 still gives it\n
 its texts are kept;show committed_further 1;;0;abc;
 an image over a file is gone on from;commit $(cp one_source committed_over && echo committed_over) abcde abc;;0;committed 1\n;
 the text behind it is shown;show committed_over 1 abc;;0;abcde;
 a row of bytes over a source is not gone on from by a file;commit $(cp bytes_row_over_a_source over_bytes && echo over_bytes) ab abc;;1;;refused G1(0)\n
-as many looks as the limit, and a commit;commit --at-most 137 $(cp one_insert committed_further && echo committed_further) abcde;;0;committed 2\n;
+as many looks as the limit, and a commit;commit --at-most 137 $(cp one_insert committed_further && echo committed_further) abcde;;0;committed 2\n;revision 1 of committed_further was not committed from abcde: what it had and abcde has not is taken out, and cordkit show committed_further 1 still gives it\n
 a look more than the limit, and no commit;commit --at-most=136 $(cp one_insert committed_further && echo committed_further) abcde;;1;;refused looks 137\n
 an image is as it was where it is refused;cmp committed_further one_insert;;0;equal\n;
 an image to commit to that is refused;commit child_not_earlier abc;;1;;refused C4(1)\n
@@ -801,12 +834,12 @@ a file that is a source;commit committed_over abc abc;;1;;refused J6\n
 a file that is to be the image;commit committed $(cp committed committed.new && echo committed.new);;1;;refused J6\n
 it is as it was;cmp committed committed.new;;0;equal\n;
 an image with keys beside it;commit $(cp committed keyed && cp abc keyed.keys && echo keyed) abc;;1;;refused J2\n
-an image with an empty file of keys beside it;commit $(: > keyed.keys && echo keyed) abc;;0;committed 5\n;
-a state that comes back;commit $("$program" commit came_back abc >> told && "$program" commit came_back abcde >> told && echo came_back) abc;;0;committed 3\n;
+an image with an empty file of keys beside it;commit $(: > keyed.keys && echo keyed) abc;;0;committed 5\n;revision 4 of keyed was not committed from abc: what it had and abc has not is taken out, and cordkit show keyed 4 still gives it\n
+a state that comes back;commit $("$program" commit came_back abc >> told 2>&1 && "$program" commit came_back abcde >> told 2>&1 && echo came_back) abc;;0;committed 3\n;revision 2 of came_back was not committed from abc: what it had and abc has not is taken out, and cordkit show came_back 2 still gives it\n
 its bytes have the origin that they had;blame came_back 3;;0;0 3 1 0 many 0 "abc"\n;
-the state between comes back;commit came_back abcde;;0;committed 4\n;
+the state between comes back;commit came_back abcde;;0;committed 4\n;revision 3 of came_back was not committed from abcde: what it had and abcde has not is taken out, and cordkit show came_back 3 still gives it\n
 so have its bytes;blame came_back 4;;0;0 3 1 0 many 0 "abc"\n3 2 2 3 many 1 "de"\n;
-the first one comes back once more;commit came_back abc;;0;committed 5\n;
+the first one comes back once more;commit came_back abc;;0;committed 5\n;revision 4 of came_back was not committed from abc: what it had and abc has not is taken out, and cordkit show came_back 4 still gives it\n
 the latest with a text is gone back to, by one command;log came_back;;0;new # 0: 0 bytes, depth 0, 0 rows\nmany 0 0 0 "abc" # 1: 3 bytes, depth 0, balanced, 1 rows\nmany 1 3 0 "de" # 2: 5 bytes, depth 0, balanced, 2 rows\nback 1 # 3: 3 bytes, depth 0, balanced, 1 rows\nback 2 # 4: 5 bytes, depth 0, balanced, 1 rows\nback 3 # 5: 3 bytes, depth 0, balanced, 1 rows\n;
 a state that is the last one;commit came_back abc;;0;same 5\n;
 a file to commit that is not there;commit committed missing;;3;;read\n
@@ -815,7 +848,7 @@ a file to commit of 512 gigabytes;commit committed half;;1;;refused E7(N4)\n
 an image to commit to that is not there beside a source;commit missing abcde abc;;3;;read\n
 an image to commit to that is a folder;commit folder abcde;;3;;write\n
 a commit to a full device;commit /dev/full abc;;3;;write\n
-a file gets the text of a revision;restore $(cp committed restored && cp ab note && chmod 640 note && echo restored) 1 note;;0;committed 5\n;
+a file gets the text of a revision;restore $(cp committed restored && cp ab note && chmod 640 note && echo restored) 1 note;;0;committed 5\n;revision 4 of restored was not committed from note: what it had and note has not is taken out, and cordkit show restored 4 still gives it\n
 it has that text;cut 0 9 note;;0;abc;
 what it held is kept;show restored 5;;0;ab;
 it has the mode that it had;cut 0 9 $(test "$(stat -c %a note)" = 640 && echo note);;0;abc;
@@ -827,7 +860,7 @@ a file that is not there is made;restore restored 2 note_anew;;0;;
 it has the text;cut 0 9 note_anew;;0;abcde;
 an empty text is restored;restore restored 0 note_anew;;0;same 7\n;
 the file is empty;cmp note_anew nothing;;0;equal\n;
-a file gets a text over a source;restore $(echo open 0 > open_script && "$program" apply open_script abc > opened && echo opened) 0 note_anew abc;;0;committed 1\n;
+a file gets a text over a source;restore $(echo open 0 > open_script && "$program" apply open_script abc > opened && echo opened) 0 note_anew abc;;0;committed 1\n;revision 0 of opened was not committed from note_anew: what it had and note_anew has not is taken out, and cordkit show opened 0 still gives it\n
 it has the bytes of the source;cut 0 9 note_anew;;0;abc;
 a revision that is not there to restore;restore restored 99 note;;1;;refused no revision\n
 an image to restore from that is not there;restore missing 0 note;;3;;read\n
@@ -836,9 +869,12 @@ an image to restore from that is refused;restore child_not_earlier 0 note;;1;;re
 an image to restore from without its source;restore one_source 0 note;;1;;refused C2\n
 a look more than the limit, and nothing is restored;restore --at-most=136 $(cp one_insert restored_one && echo restored_one) 0 note;;1;;refused looks 137\n
 an image with keys beside it to restore from;restore $(cp restored keyed && cp abc keyed.keys && echo keyed) 0 note;;1;;refused J2\n
-its answer on a full device, and the text stays;restore restored 0 note;;3;/dev/full;write\n
+its answer on a full device, and the text stays;restore restored 0 note;;3;/dev/full;revision 7 of restored was not committed from note: what it had and note has not is taken out, and cordkit show restored 7 still gives it\nwrite\n
 the file has what it had;cmp note abc;;0;equal\n;
 nothing is beside it any more;check note.new-1;;3;;read\n
+a file to restore that is to be the image;restore restored 0 restored.new;;1;;refused J6\n
+by another name of its folder;restore restored 0 ../files/restored.new;;1;;refused J6\n
+a file that is made is as open as its image;cut 0 9 $(chmod 600 restored && "$program" restore restored 1 note_made && test "$(stat -c %a note_made)" = 600 && echo note_made);;0;abc;
 a file to restore that is the image;restore restored 0 restored;;1;;refused J6\n
 a folder to restore;restore restored 0 folder;;3;;write\n
 a device to restore;restore restored 0 /dev/null;;3;;write\n
@@ -998,11 +1034,11 @@ help by its word;help;;2;;help.txt
 help for a command;cut --help;;2;;cut_help.txt
 a command that is not known;frobnicate;;2;;error: unrecognized subcommand 'frobnicate'\n\nUsage: cordkit [OPTIONS] [COMMAND]\n\nFor more information, try '--help'.\n
 an option that is not known;--frobnicate;;2;;error: unexpected argument '--frobnicate' found\n\nUsage: cordkit [OPTIONS] [COMMAND]\n\nFor more information, try '--help'.\n
-a word that is missing;show one_insert;;2;;error: the following required arguments were not provided:\n  <REV>\n\nUsage: cordkit show <IMAGE> <REV> [SOURCE]...\n\nFor more information, try '--help'.\n
+a word that is missing;restore one_insert 0;;2;;error: the following required arguments were not provided:\n  <FILE>\n\nUsage: cordkit restore <IMAGE> <REV> <FILE> [SOURCE]...\n\nFor more information, try '--help'.\n
 a word too many;cmp abc ab abcde;;2;;error: unexpected argument 'abcde' found\n\nUsage: cordkit cmp [OPTIONS] <FIRST> <SECOND>\n\nFor more information, try '--help'.\n
 a number of more than 64 bits;cut 18446744073709551616 1 abcde;;2;;error: invalid value '18446744073709551616' for '<START>': number too large to fit in target type\n\nUsage: cordkit cut [OPTIONS] <START> <COUNT> <FILE>\n\nFor more information, try '--help'.\n
 a limit that is no number;check --at-most few one_insert;;2;;error: invalid value 'few' for '<LOOKS>': invalid digit found in string\n\nUsage: cordkit check [OPTIONS] <IMAGE> [SOURCE]...\n\nFor more information, try '--help'.\n
-a word that is no number;show one_insert one;;2;;error: invalid value 'one' for '<REV>': invalid digit found in string\n\nUsage: cordkit show [OPTIONS] <IMAGE> <REV> [SOURCE]...\n\nFor more information, try '--help'.\n
+a word that is no number;show one_insert one;;2;;error: invalid value 'one' for '<REV>': invalid digit found in string\n\nUsage: cordkit show [OPTIONS] <IMAGE> [REV] [SOURCE]...\n\nFor more information, try '--help'.\n
 
 an image cut short on standard input is refused;;cut_short_by_one;1;refused C1(I1)\n;
 a kind that is not known on standard input is refused;;unknown_node_kind;1;refused C1(I7)\n;
@@ -1061,7 +1097,7 @@ an image that is a folder in words;commit --explain folder abc;;3;;write\nwrite:
 keys in a folder that is not there in words;edit --explain --keep missing/keys kept;keys_saved;3;;write\nwrite: missing/keys could not be written: its folder is not there\n
 a session's file that is a folder in words;edit --explain --keep kept_keys --session folder kept;keys_saved;3;;read\nread: folder is a folder\n
 no session begins in what is none in words;edit --explain --keep kept_keys --session abc kept;keys_saved;3;;read\nread: abc could not be read to its end: it is no file of a session\n
-a commit's answer on a full device in words;commit --explain committed_told ab;;3;/dev/full;write\nwrite: standard output could not be written: its disk is full\n
+a commit's answer on a full device in words;commit --explain committed_told ab;;3;/dev/full;revision 1 of committed_told was not committed from ab: what it had and ab has not is taken out, and cordkit show committed_told 1 still gives it\nwrite\nwrite: standard output could not be written: its disk is full\n
 control bytes of a name in words;cmp --explain abc $(printf 'a\033[31m\177b');;3;;read\nread: there is no file a\\x1b[31m\\x7fb\n
 keys that are a folder in words;edit --explain unsaved abc;folder;3;edit_abc.txt;read\nread: standard input is a folder\n
 standard input that is a folder in words;--explain;folder;3;;read\nread: standard input is a folder\n
@@ -1086,7 +1122,7 @@ no such revision behind an image in words;apply --explain --onto new_alone scrip
 another number of sources of an image in words;apply --explain --onto one_insert script_of_d abc;;1;;refused C2\nC2: the sources of one_insert are 0 in number, and 1 are given\n
 a script that is not there, behind an image, in words;apply --explain --onto one_insert missing;;3;;read\nread: there is no file missing\n
 a file that is the image in words;commit --explain committed committed;;1;;refused J6\nJ6: committed is the image itself, the file beside it that is to be the image, or a source of its session\n
-an image with keys beside it in words;commit --explain $(cp abc keyed.keys && echo keyed) abcde;;1;;refused J2\nJ2: another session keeps its keys in keyed.keys\n
+an image with keys beside it in words;commit --explain $(cp abc keyed.keys && echo keyed) abcde;;1;;refused J2\nJ2: a session keeps its keys in keyed.keys, and has not saved them\n
 a file to commit of 512 gigabytes in words;commit --explain committed half;;1;;refused E7(N4)\nE7(N4): the commit of half would put in more bytes than there may be\n
 an image to commit to that is none in words;commit --explain abcde abc;;1;;refused C1(I3)\nC1(I3): abcde is no image: it does not begin with CORDSESS. It stays as it is: move it away and give the same command again, or name another image\n
 a row of bytes over a source in words, by a file;commit --explain over_bytes ab abc;;1;;refused G1(0)\nG1(0): revision 0 of over_bytes has a row that compares bytes of a source: a session of its commands is made by cordkit log over_bytes SOURCE.. | cordkit apply /dev/stdin SOURCE..\n
@@ -1116,11 +1152,22 @@ help to edit;edit --help;;2;;edit_help.txt
 a file before its command;abcde check;;2;;error: unrecognized subcommand 'abcde'\n\nUsage: cordkit [OPTIONS] [COMMAND]\n\nFor more information, try '--help'.\n
 an image to check that is missing;check;;2;;error: the following required arguments were not provided:\n  <IMAGE>\n\nUsage: cordkit check <IMAGE> [SOURCE]...\n\nFor more information, try '--help'.\n
 an option of check that is not known;check --frobnicate one_insert;;2;;error: unexpected argument '--frobnicate' found\n\n  tip: to pass '--frobnicate' as a value, use '-- --frobnicate'\n\nUsage: cordkit check [OPTIONS] <IMAGE> [SOURCE]...\n\nFor more information, try '--help'.\n
-an image and a revision that are missing;show;;2;;error: the following required arguments were not provided:\n  <IMAGE>\n  <REV>\n\nUsage: cordkit show <IMAGE> <REV> [SOURCE]...\n\nFor more information, try '--help'.\n
-a source in the place of a revision;show one_insert abc 1;;2;;error: invalid value 'abc' for '<REV>': invalid digit found in string\n\nUsage: cordkit show [OPTIONS] <IMAGE> <REV> [SOURCE]...\n\nFor more information, try '--help'.\n
-a revision with a fraction;show one_insert 1.0;;2;;error: invalid value '1.0' for '<REV>': invalid digit found in string\n\nUsage: cordkit show [OPTIONS] <IMAGE> <REV> [SOURCE]...\n\nFor more information, try '--help'.\n
-a revision of more than 64 bits;show one_insert 18446744073709551616;;2;;error: invalid value '18446744073709551616' for '<REV>': number too large to fit in target type\n\nUsage: cordkit show [OPTIONS] <IMAGE> <REV> [SOURCE]...\n\nFor more information, try '--help'.\n
-a revision with a sign;show one_insert -1;;2;;error: unexpected argument '-1' found\n\n  tip: to pass '-1' as a value, use '-- -1'\n\nUsage: cordkit show [OPTIONS] <IMAGE> <REV> [SOURCE]...\n\nFor more information, try '--help'.\n
+an image that is missing;show;;2;;error: the following required arguments were not provided:\n  <IMAGE>\n\nUsage: cordkit show <IMAGE> [REV] [SOURCE]...\n\nFor more information, try '--help'.\n
+a source in the place of a revision;show one_insert abc 1;;2;;error: invalid value 'abc' for '<REV>': invalid digit found in string\n\nUsage: cordkit show [OPTIONS] <IMAGE> [REV] [SOURCE]...\n\nFor more information, try '--help'.\n
+a revision with a fraction;show one_insert 1.0;;2;;error: invalid value '1.0' for '<REV>': invalid digit found in string\n\nUsage: cordkit show [OPTIONS] <IMAGE> [REV] [SOURCE]...\n\nFor more information, try '--help'.\n
+a revision of more than 64 bits;show one_insert 18446744073709551616;;2;;error: invalid value '18446744073709551616' for '<REV>': number too large to fit in target type\n\nUsage: cordkit show [OPTIONS] <IMAGE> [REV] [SOURCE]...\n\nFor more information, try '--help'.\n
+the last revision;show one_insert;;0;abc;
+the last revision by a word;show one_insert last;;0;abc;
+the last revision by a sign;show one_insert -1;;0;abc;
+the last revision over a source;show one_source -1 abc;;0;;
+the last of no revisions;show no_revisions_in_two;;1;;refused no revision\n
+where the bytes of the last revision come from;blame one_insert;;0;0 3 1 0 insert 0 0 "abc"\n;
+where they come from by a sign;blame --start 2 one_insert -1;;0;2 1 1 2 insert 0 0 "c"\n;
+a sign behind the end of options;show one_insert -- -1;;0;abc;
+a sign in the place of a file;restore one_insert 1 -1;;2;;error: unexpected argument '-1' found\n\n  tip: to pass '-1' as a value, use '-- -1'\n\nUsage: cordkit restore [OPTIONS] <IMAGE> <REV> <FILE> [SOURCE]...\n\nFor more information, try '--help'.\n
+a sign that names another revision;show one_insert -2;;2;;error: unexpected argument '-2' found\n\n  tip: to pass '-2' as a value, use '-- -2'\n\nUsage: cordkit show [OPTIONS] <IMAGE> [REV] [SOURCE]...\n\nFor more information, try '--help'.\n
+a sign in the place of a limit;show --at-most -1 one_insert;;2;;error: unexpected argument '-1' found\n\n  tip: to pass '-1' as a value, use '-- -1'\n\nUsage: cordkit show [OPTIONS] <IMAGE> [REV] [SOURCE]...\n\nFor more information, try '--help'.\n
+a control character in a word;show one_insert $(printf 'a\033[1mb');;2;;error: invalid value 'a\\x1b[1mb' for '<REV>': invalid digit found in string\n\nUsage: cordkit show [OPTIONS] <IMAGE> [REV] [SOURCE]...\n\nFor more information, try '--help'.\n
 all words of cut that are missing;cut;;2;;error: the following required arguments were not provided:\n  <START>\n  <COUNT>\n  <FILE>\n\nUsage: cordkit cut <START> <COUNT> <FILE>\n\nFor more information, try '--help'.\n
 a file to cut that is missing;cut 1 2;;2;;error: the following required arguments were not provided:\n  <FILE>\n\nUsage: cordkit cut <START> <COUNT> <FILE>\n\nFor more information, try '--help'.\n
 a start that is no number;cut x 2 abcde;;2;;error: invalid value 'x' for '<START>': invalid digit found in string\n\nUsage: cordkit cut [OPTIONS] <START> <COUNT> <FILE>\n\nFor more information, try '--help'.\n

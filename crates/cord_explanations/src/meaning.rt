@@ -77,10 +77,11 @@ fn of_files(code: &str) -> &'static str {
     match code {
         "F1" => "the pattern has more than 4,096 bytes",
         "J1" => "% has the keys of another file or image, or something else",
-        "J2" => "another session keeps its keys in %",
+        "J2" => "a session keeps its keys in %, and has not saved them",
         "J3" =>
             "% is there already: cordedit -f replaces it, and cordedit --continue % NEW begins with its last text",
-        "J4" => "% is not what was there when the session began, and stays as it is",
+        "J4" =>
+            "another run has put something else in place of %, or is writing to it: it stays as it is",
         "J5" => "% is not there, or not the one that the session had",
         "J6" =>
             "% is the image itself, the file beside it that is to be the image, or a source of its session",

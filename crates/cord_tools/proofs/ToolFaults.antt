@@ -8,6 +8,7 @@ use Rattle.lazy_file.specs.declared.faults.SourceFault.{SourceFault}
 use Rattle.lazy_file.specs.declared.faults.SourceFault.TheVariants as Source
 use Rattle.session_checker.specs.declared.fault.CheckFault.{CheckFault}
 use Rattle.session_checker.specs.declared.fault.CheckFault.TheVariants as Check
+use Rattle.session_checker.specs.declared.wanted.WantedRevision.{WantedRevision}
 use Rattle.session_checker.specs.Accepted.{BytesAsk, SpellsFaithful}
 use Rattle.session_checker.specs.Limits.{IsFirstFaultWithin}
 use Rattle.session_checker.specs.RevisionRules.{source_fault}
@@ -19,7 +20,7 @@ use Rattle.cord_search.specs.Faults.{put_source_fault}
 use Rattle.cord_search.specs.declared.fault.PutFault.{PutFault}
 use Rattle.cord_search.specs.declared.fault.PutFault.TheVariants as Put
 use Rattle.image_reader.specs.Value.{ImageValue}
-use Rattle.cord_tools.specs.Answers.{AnswersCheck, AnswersShow, AreRead, CheckAsks, EndsUnwritten, ReadsRevision, ShowAsks, revision_cells}
+use Rattle.cord_tools.specs.Answers.{AnswersCheck, AnswersShow, AreRead, CheckAsks, EndsUnwritten, ReadsRevision, ShowAsks, wanted_cells}
 use Rattle.cord_tools.specs.Faults.{IsJoinFault, IsStop, check_fault, put_fault, read_fault, tool_rope_fault}
 use Rattle.cord_tools.specs.Files.{AnswersCompare, AnswersFind}
 use Rattle.cord_tools.specs.Unread.{IsPlaceAmong, StopsAt, ToolReads, ToolReadsCells}
@@ -115,13 +116,13 @@ check_refused at_most reading old new remaining contents bytes (Check.Source f) 
 check_refused at_most reading old new remaining contents bytes other read first reads = (Keeps-same contents, (bytes, read, record { first = first refl; told = refl }))
 
 -- so it ends where a text is to be shown
-pub shows_none : {T : Type 0} (at_most : Option ℕ) (reading : T → Reading) (old new : T) (remaining before after : Option (List ℕ)) (k : ℕ) (e : ToolFault)
-    → EndsUnwritten at_most reading old new remaining before after e → AnswersShow at_most reading old new remaining k before after (Err e)
-shows_none at_most reading old new remaining before after k Read ends = inl ends
-shows_none at_most reading old new remaining before after k Memory ends = inl ends
-shows_none at_most reading old new remaining before after k Tool.NoRevision ends = absurd ends
-shows_none at_most reading old new remaining before after k Write ends = absurd ends
-shows_none at_most reading old new remaining before after k other ends = ends
+pub shows_none : {T : Type 0} (at_most : Option ℕ) (reading : T → Reading) (old new : T) (remaining before after : Option (List ℕ)) (w : WantedRevision) (e : ToolFault)
+    → EndsUnwritten at_most reading old new remaining before after e → AnswersShow at_most reading old new remaining w before after (Err e)
+shows_none at_most reading old new remaining before after w Read ends = inl ends
+shows_none at_most reading old new remaining before after w Memory ends = inl ends
+shows_none at_most reading old new remaining before after w Tool.NoRevision ends = absurd ends
+shows_none at_most reading old new remaining before after w Write ends = absurd ends
+shows_none at_most reading old new remaining before after w other ends = ends
 
 -- a fault that is told as a refusal is no source's
 pub no_source : (f : CheckFault) → check_fault f ≡ Refused f → source_fault f ≡ None
@@ -166,18 +167,18 @@ image_reads old new remaining bytes f read h = record {
 }
 
 -- and for a revision to be shown
-pub check_reads : {X : Type 0} (old new : Reading) (remaining : Option (List ℕ)) (k : ℕ) (bytes : List ℕ) (f : CheckFault) → AreRead remaining bytes → Reads old new (BytesAsk old.stated bytes) (source_fault f) → ToolReads {X = X} old new (ShowAsks remaining old.stated k) (Err (check_fault f))
-check_reads old new remaining k bytes f read h = record {
+pub check_reads : {X : Type 0} (old new : Reading) (remaining : Option (List ℕ)) (w : WantedRevision) (bytes : List ℕ) (f : CheckFault) → AreRead remaining bytes → Reads old new (BytesAsk old.stated bytes) (source_fault f) → ToolReads {X = X} old new (ShowAsks remaining old.stated w) (Err (check_fault f))
+check_reads old new remaining w bytes f read h = record {
   fault = source_fault f;
-  reads = reads_weaker old new (BytesAsk old.stated bytes) (ShowAsks remaining old.stated k) (source_fault f) (λ s p asks. inl (bytes, read, asks)) h;
+  reads = reads_weaker old new (BytesAsk old.stated bytes) (ShowAsks remaining old.stated w) (source_fault f) (λ s p asks. inl (bytes, read, asks)) h;
   told = check_told f;
 }
 
 -- and what its text asks for
-pub text_reads : {X : Type 0} (old new : Reading) (remaining : Option (List ℕ)) (k : ℕ) (bytes : List ℕ) (v : ImageValue) (outcome : Result X ToolFault) → AreRead remaining bytes → SpellsFaithful bytes old.stated v → ToolReadsCells old new (revision_cells v k) outcome → ToolReads old new (ShowAsks remaining old.stated k) outcome
-text_reads old new remaining k bytes v outcome read spelled h = record {
+pub text_reads : {X : Type 0} (old new : Reading) (remaining : Option (List ℕ)) (w : WantedRevision) (bytes : List ℕ) (v : ImageValue) (outcome : Result X ToolFault) → AreRead remaining bytes → SpellsFaithful bytes old.stated v → ToolReadsCells old new (wanted_cells w v) outcome → ToolReads old new (ShowAsks remaining old.stated w) outcome
+text_reads old new remaining w bytes v outcome read spelled h = record {
   fault = h.at.fault;
-  reads = reads_weaker old new (IsPlaceAmong (revision_cells v k)) (ShowAsks remaining old.stated k) h.at.fault (λ s p asked. inr (v, bytes, read, spelled, asked)) h.at.reads;
+  reads = reads_weaker old new (IsPlaceAmong (wanted_cells w v)) (ShowAsks remaining old.stated w) h.at.fault (λ s p asked. inr (v, bytes, read, spelled, asked)) h.at.reads;
   told = h.at.told;
 }
 
@@ -187,14 +188,14 @@ no_texts [] is = refl
 no_texts (text ∷ texts) is = let sizes = ap (λ (st : Stated). st.sizes) is in absurd cc
 
 -- what is told where the text of a revision was not written to its end
-pub show_stopped : {T : Type 0} (at_most : Option ℕ) (reading : T → Reading) (old new : T) (remaining : Option (List ℕ)) (k : ℕ) (before after : Option (List ℕ)) (v : ImageValue) (e : PutFault)
-    → ReadsRevision at_most remaining (reading old).stated k v (AppendsPrefix before after) → Reads (reading old) (reading new) (IsPlaceAmong (revision_cells v k)) (put_source_fault e)
-    → AnswersShow at_most reading old new remaining k before after (Err (put_fault e))
-show_stopped at_most reading old new remaining k before after v Put.Write h reads = (v, h)
-show_stopped at_most reading old new remaining k before after v (Put.Source Source.Device) h reads = inr (v, h, record { fault = Source.Device; read = reads; told_as = refl })
-show_stopped at_most reading old new remaining k before after v (Put.Source Source.Short) h reads = inr (v, h, record { fault = Source.Short; read = reads; told_as = refl })
-show_stopped at_most reading old new remaining k before after v (Put.Source Source.BadSource) h reads = inr (v, h, record { fault = Source.BadSource; read = reads; told_as = refl })
-show_stopped at_most reading old new remaining k before after v (Put.Source Source.Memory) h reads = inr (v, h, record { fault = Source.Memory; read = reads; told_as = refl })
+pub show_stopped : {T : Type 0} (at_most : Option ℕ) (reading : T → Reading) (old new : T) (remaining : Option (List ℕ)) (w : WantedRevision) (before after : Option (List ℕ)) (v : ImageValue) (e : PutFault)
+    → ReadsRevision at_most remaining (reading old).stated w v (AppendsPrefix before after) → Reads (reading old) (reading new) (IsPlaceAmong (wanted_cells w v)) (put_source_fault e)
+    → AnswersShow at_most reading old new remaining w before after (Err (put_fault e))
+show_stopped at_most reading old new remaining w before after v Put.Write h reads = (v, h)
+show_stopped at_most reading old new remaining w before after v (Put.Source Source.Device) h reads = inr (v, h, record { fault = Source.Device; read = reads; told_as = refl })
+show_stopped at_most reading old new remaining w before after v (Put.Source Source.Short) h reads = inr (v, h, record { fault = Source.Short; read = reads; told_as = refl })
+show_stopped at_most reading old new remaining w before after v (Put.Source Source.BadSource) h reads = inr (v, h, record { fault = Source.BadSource; read = reads; told_as = refl })
+show_stopped at_most reading old new remaining w before after v (Put.Source Source.Memory) h reads = inr (v, h, record { fault = Source.Memory; read = reads; told_as = refl })
 
 -- what is told where files were not compared, or a pattern not sought to its end
 pub compare_stopped : (st : Stated) (contents : Option (List ℕ)) (e : ToolFault) → (e ≡ Read) ⊎ (e ≡ Memory) → AnswersCompare st contents contents (Err e)

@@ -14,6 +14,8 @@ use Rattle.image_reader.specs.Accepted.{revision_at}
 use Rattle.image_reader.specs.Reading.{judged_len}
 use Rattle.image_reader.specs.Value.{ImageValue, image_table}
 use Rattle.session_checker.specs.declared.fault.CheckFault.{CheckFault}
+use Rattle.session_checker.specs.declared.wanted.WantedRevision.{WantedRevision}
+use Rattle.session_checker.specs.Wanted.{wanted_number}
 use Rattle.session_checker.specs.Accepted.{BytesAsk, SpellsFaithful}
 use Rattle.session_checker.specs.Limits.{IsFirstFaultWithin, AreLooksWithin}
 use Rattle.session_checker.specs.Faithful.{revision_text}
@@ -122,55 +124,65 @@ EndsUnwritten at_most reading old new remaining before after other = ⊥
 abbrev pub revision_cells : ImageValue → ℕ → List Cell
 revision_cells v k = rope_cells (image_table v) (revision_at v k).root
 
+-- the number of a wanted revision of an image
+abbrev pub wanted_in : WantedRevision → ImageValue → ℕ
+wanted_in wanted v = wanted_number wanted (length v.revisions)
+
+-- and its cells
+abbrev pub wanted_cells : WantedRevision → ImageValue → List Cell
+wanted_cells wanted v = revision_cells v (wanted_in wanted v)
+
 -- P holds of the text of revision k, whatever bytes the sources have that agree with what they state, where its cells
 -- are stated
 abbrev pub OfRevision : ImageValue → Stated → ℕ → (List ℕ → Type 0) → Type 0
 OfRevision v st k P =
     (source : ℕ → ℕ → ℕ) → Agrees st source → AreStated st (revision_cells v k) → P (revision_text v source k)
 
--- the bytes read spell a faithful image with these sources, within the limit, and P holds of the text of its revision k
-pub record ReadsRevision (at_most : Option ℕ) (remaining : Option (List ℕ)) (st : Stated) (k : ℕ) (v : ImageValue)
-    (P : List ℕ → Type 0) : Type 0 where
+-- the bytes read spell a faithful image with these sources, within the limit, and P holds of the text of its wanted
+-- revision
+pub record ReadsRevision (at_most : Option ℕ) (remaining : Option (List ℕ)) (st : Stated) (wanted : WantedRevision)
+    (v : ImageValue) (P : List ℕ → Type 0) : Type 0 where
   pub bytes : List ℕ
   pub read : AreRead remaining bytes
   pub spelled : SpellsFaithful bytes st v
   pub within : AreLooksWithin at_most v
-  pub there : k < length v.revisions
-  pub text : OfRevision v st k P
+  pub there : wanted_in wanted v < length v.revisions
+  pub text : OfRevision v st (wanted_in wanted v) P
 
 -- The text of the revision was written; where it ended before, a prefix of it, or nothing. Nothing is written before
 -- the image is accepted. From then on it can end for the writer, or where a read of one of its cells failed, and for
 -- nothing else.
-abbrev pub AnswersShow : {T : Type 0} → Option ℕ → (T → Reading) → T → T → Option (List ℕ) → ℕ → Option (List ℕ)
-    → Option (List ℕ) → Result (Unit {0}) ToolFault → Type 0
-AnswersShow at_most reading old new remaining k before after (Ok u) =
-    (v : ImageValue) × ReadsRevision at_most remaining (reading old).stated k v (Appends before after)
-AnswersShow at_most reading old new remaining k before after (Err Write) =
-    (v : ImageValue) × ReadsRevision at_most remaining (reading old).stated k v (AppendsPrefix before after)
-AnswersShow at_most reading old new remaining k before after (Err Read) =
+abbrev pub AnswersShow : {T : Type 0} → Option ℕ → (T → Reading) → T → T → Option (List ℕ) → WantedRevision
+    → Option (List ℕ) → Option (List ℕ) → Result (Unit {0}) ToolFault → Type 0
+AnswersShow at_most reading old new remaining wanted before after (Ok u) =
+    (v : ImageValue) × ReadsRevision at_most remaining (reading old).stated wanted v (Appends before after)
+AnswersShow at_most reading old new remaining wanted before after (Err Write) =
+    (v : ImageValue) × ReadsRevision at_most remaining (reading old).stated wanted v (AppendsPrefix before after)
+AnswersShow at_most reading old new remaining wanted before after (Err Read) =
     EndsUnwritten at_most reading old new remaining before after Read
-    ⊎ ((v : ImageValue) × ReadsRevision at_most remaining (reading old).stated k v (AppendsPrefix before after)
-    × StopsAt (reading old) (reading new) (IsPlaceAmong (revision_cells v k)) Read)
-AnswersShow at_most reading old new remaining k before after (Err Memory) =
+    ⊎ ((v : ImageValue) × ReadsRevision at_most remaining (reading old).stated wanted v (AppendsPrefix before after)
+    × StopsAt (reading old) (reading new) (IsPlaceAmong (wanted_cells wanted v)) Read)
+AnswersShow at_most reading old new remaining wanted before after (Err Memory) =
     EndsUnwritten at_most reading old new remaining before after Memory
-    ⊎ ((v : ImageValue) × ReadsRevision at_most remaining (reading old).stated k v (AppendsPrefix before after)
-    × StopsAt (reading old) (reading new) (IsPlaceAmong (revision_cells v k)) Memory)
-AnswersShow at_most reading old new remaining k before after (Err NoRevision) =
+    ⊎ ((v : ImageValue) × ReadsRevision at_most remaining (reading old).stated wanted v (AppendsPrefix before after)
+    × StopsAt (reading old) (reading new) (IsPlaceAmong (wanted_cells wanted v)) Memory)
+AnswersShow at_most reading old new remaining wanted before after (Err NoRevision) =
     Keeps before after × ((v : ImageValue) × (bytes : List ℕ) × AreRead remaining bytes
-    × SpellsFaithful bytes (reading old).stated v × AreLooksWithin at_most v × (length v.revisions ≤ k))
-AnswersShow at_most reading old new remaining k before after (Err other) =
+    × SpellsFaithful bytes (reading old).stated v × AreLooksWithin at_most v
+    × (length v.revisions ≤ wanted_in wanted v))
+AnswersShow at_most reading old new remaining wanted before after (Err other) =
     EndsUnwritten at_most reading old new remaining before after other
 
--- a place that showing revision k asks for: the check of the image does, or a cell of the revision is that place
-abbrev pub ShowAsks : Option (List ℕ) → Stated → ℕ → ℕ → ℕ → Type 0
-ShowAsks remaining st k s p =
+-- a place that showing a revision asks for: the check of the image does, or a cell of the revision is that place
+abbrev pub ShowAsks : Option (List ℕ) → Stated → WantedRevision → ℕ → ℕ → Type 0
+ShowAsks remaining st wanted s p =
     CheckAsks remaining st s p
     ⊎ ((v : ImageValue) × (bytes : List ℕ) × AreRead remaining bytes × SpellsFaithful bytes st v
-    × IsPlaceAmong (revision_cells v k) s p)
+    × IsPlaceAmong (wanted_cells wanted v) s p)
 
--- what run_show does: the text that it writes, and what it reads of the sources
+-- what run_show_wanted does: the text that it writes, and what it reads of the sources
 pub record ShowsRevision {T : Type 0} (at_most : Option ℕ) (reading : T → Reading) (old new : T)
-    (remaining : Option (List ℕ)) (k : ℕ)
+    (remaining : Option (List ℕ)) (wanted : WantedRevision)
     (before after : Option (List ℕ)) (outcome : Result (Unit {0}) ToolFault) : Type 0 where
-  pub reads : ToolReads (reading old) (reading new) (ShowAsks remaining (reading old).stated k) outcome
-  pub answer : AnswersShow at_most reading old new remaining k before after outcome
+  pub reads : ToolReads (reading old) (reading new) (ShowAsks remaining (reading old).stated wanted) outcome
+  pub answer : AnswersShow at_most reading old new remaining wanted before after outcome

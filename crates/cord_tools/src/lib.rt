@@ -35,6 +35,6 @@ pub use join::run_join;
 pub use looking::only_look;
 pub use migrate::{run_migrate, run_migrate_told};
 pub use outcome::{Outcome, exit_status};
-pub use show::run_show;
+pub use show::{run_show, run_show_wanted};
 pub use sources::read_source;
 pub use status::Status;

@@ -27,6 +27,10 @@ image_rule = required_rule (codes "IMAGE")
 abbrev pub revision_rule : Rule
 revision_rule = required_rule (codes "REV")
 
+-- one value or none
+abbrev pub optional_revision_rule : Rule
+optional_revision_rule = new_rule (codes "REV")
+
 -- any number of values, none of which is required
 abbrev pub sources_rule : Rule
 sources_rule = record (new_rule (codes "SOURCE")) { action = Some Append }
@@ -68,10 +72,10 @@ abbrev pub check_app : App
 check_app = with_rule (with_rule (with_rule (with_rule (new_app (codes "check")) limit_rule) length_rule) image_rule)
     sources_rule
 
--- `show [--at-most LOOKS] IMAGE REV [SOURCE]...`
+-- `show [--at-most LOOKS] IMAGE [REV] [SOURCE]...`
 abbrev pub show_app : App
 show_app = with_rule (with_rule (with_rule (with_rule (new_app (codes "show")) limit_rule)
-    image_rule) revision_rule) sources_rule
+    image_rule) optional_revision_rule) sources_rule
 
 -- `cut START COUNT FILE`
 abbrev pub cut_app : App
@@ -132,10 +136,10 @@ from_rule = record (new_rule (codes "START")) { long = Some (codes "start") }
 abbrev pub count_rule : Rule
 count_rule = record (new_rule (codes "COUNT")) { long = Some (codes "count") }
 
--- `blame [--at-most LOOKS] [--start START] [--count COUNT] IMAGE REV [SOURCE]...`
+-- `blame [--at-most LOOKS] [--start START] [--count COUNT] IMAGE [REV] [SOURCE]...`
 abbrev pub blame_app : App
 blame_app = with_rule (with_rule (with_rule (with_rule (with_rule (with_rule (new_app (codes "blame")) limit_rule)
-    from_rule) count_rule) image_rule) revision_rule) sources_rule
+    from_rule) count_rule) image_rule) optional_revision_rule) sources_rule
 
 -- the value of `--onto`, or none
 abbrev pub onto_rule : Rule
@@ -201,6 +205,16 @@ MayReadAs None n = n ≡ None
 MayReadAs (Some t) None = ⊥
 MayReadAs (Some t) (Some n) = ReadsAs t n
 
+-- the text names the revision of this number, or the last one, as no text does
+abbrev pub NamesRevision : Option Text → Option ℕ → Type 0
+NamesRevision None k = k ≡ None
+NamesRevision (Some t) None = t ≡ codes "last"
+NamesRevision (Some t) (Some k) = ReadsAs t k
+
+-- a text that names a revision
+abbrev pub IsRevisionWord : Text → Type 0
+IsRevisionWord t = (t ≡ codes "last") ⊎ IsNumber t
+
 -- the texts read as these numbers, one by one
 abbrev pub EachReadsAs : List Text → List ℕ → Type 0
 EachReadsAs = AllZip ReadsAs
@@ -229,7 +243,7 @@ Holds given (Check at_most lengths image sources) = Gives given (codes "check") 
     × (map (λ s. s.now) sources.items ≡ argument_texts rows (codes "SOURCE")))
 Holds given (Show at_most image revision sources) = Gives given (codes "show") (λ rows.
     MayReadAs (first_of (codes "LOOKS") rows) at_most
-    × (image.now ≡ argument_text rows (codes "IMAGE")) × ReadsAs (argument_text rows (codes "REV")) revision
+    × (image.now ≡ argument_text rows (codes "IMAGE")) × NamesRevision (first_of (codes "REV") rows) revision
     × (map (λ s. s.now) sources.items ≡ argument_texts rows (codes "SOURCE")))
 Holds given (Cut start count file) = Gives given (codes "cut") (λ rows.
     ReadsAs (argument_text rows (codes "START")) start × ReadsAs (argument_text rows (codes "COUNT")) count
@@ -267,7 +281,7 @@ Holds given (Log at_most lengths brief image sources) = Gives given (codes "log"
 Holds given (Blame at_most start count image revision sources) = Gives given (codes "blame") (λ rows.
     MayReadAs (first_of (codes "LOOKS") rows) at_most
     × MayReadAs (first_of (codes "START") rows) start × MayReadAs (first_of (codes "COUNT") rows) count
-    × (image.now ≡ argument_text rows (codes "IMAGE")) × ReadsAs (argument_text rows (codes "REV")) revision
+    × (image.now ≡ argument_text rows (codes "IMAGE")) × NamesRevision (first_of (codes "REV") rows) revision
     × (map (λ s. s.now) sources.items ≡ argument_texts rows (codes "SOURCE")))
 Holds given (Apply onto at_most script sources) = Gives given (codes "apply") (λ rows.
     (limits_a_check rows ≡ true)
@@ -281,7 +295,7 @@ Holds given (Commit at_most image file sources) = Gives given (codes "commit") (
     × (map (λ s. s.now) sources.items ≡ argument_texts rows (codes "SOURCE")))
 Holds given (Restore at_most image revision file sources) = Gives given (codes "restore") (λ rows.
     MayReadAs (first_of (codes "LOOKS") rows) at_most
-    × (image.now ≡ argument_text rows (codes "IMAGE")) × ReadsAs (argument_text rows (codes "REV")) revision
+    × (image.now ≡ argument_text rows (codes "IMAGE")) × NamesRevision (first_of (codes "REV") rows) revision
     × (file.now ≡ argument_text rows (codes "FILE"))
     × (map (λ s. s.now) sources.items ≡ argument_texts rows (codes "SOURCE")))
 
@@ -322,11 +336,11 @@ abbrev pub LimitAndLengthsRead : List Row → Type 0
 LimitAndLengthsRead rows =
     IfSome (first_of (codes "LOOKS") rows) IsNumber × All IsNumber (argument_texts rows (codes "LENGTH"))
 
--- each word that stands for a number is one
+-- each word that stands for a number or a revision is one
 pub record NumbersRead (given : Option (Text × List Row)) : Type 0 where
   pub check : WhereGiven given (codes "check") LimitAndLengthsRead
   pub show : WhereGiven given (codes "show") (λ rows.
-      IfSome (first_of (codes "LOOKS") rows) IsNumber × IsNumber (argument_text rows (codes "REV")))
+      IfSome (first_of (codes "LOOKS") rows) IsNumber × IfSome (first_of (codes "REV") rows) IsRevisionWord)
   pub cut : WhereGiven given (codes "cut") (λ rows.
       IsNumber (argument_text rows (codes "START")) × IsNumber (argument_text rows (codes "COUNT")))
   pub find : WhereGiven given (codes "find") (λ rows. IsNumber (argument_text rows (codes "START")))
@@ -334,11 +348,11 @@ pub record NumbersRead (given : Option (Text × List Row)) : Type 0 where
   pub log : WhereGiven given (codes "log") LimitAndLengthsRead
   pub blame : WhereGiven given (codes "blame") (λ rows.
       IfSome (first_of (codes "LOOKS") rows) IsNumber × IfSome (first_of (codes "START") rows) IsNumber
-      × IfSome (first_of (codes "COUNT") rows) IsNumber × IsNumber (argument_text rows (codes "REV")))
+      × IfSome (first_of (codes "COUNT") rows) IsNumber × IfSome (first_of (codes "REV") rows) IsRevisionWord)
   pub apply : WhereGiven given (codes "apply") (λ rows. IfSome (first_of (codes "LOOKS") rows) IsNumber)
   pub commit : WhereGiven given (codes "commit") (λ rows. IfSome (first_of (codes "LOOKS") rows) IsNumber)
   pub restore : WhereGiven given (codes "restore") (λ rows.
-      IfSome (first_of (codes "LOOKS") rows) IsNumber × IsNumber (argument_text rows (codes "REV")))
+      IfSome (first_of (codes "LOOKS") rows) IsNumber × IfSome (first_of (codes "REV") rows) IsRevisionWord)
 
 -- `--discard` stands beside no word that is for a session
 abbrev pub DiscardsAlone : Option (Text × List Row) → Type 0

@@ -34,7 +34,7 @@ pub enum Action<'a> {
     Show {
         at_most: Option<u64>,
         image: &'a str,
-        revision: u64,
+        revision: Option<u64>,
         sources: Vec<&'a str>,
     },
     /// Write at most `count` bytes of a file, from its byte `start` on.
@@ -96,7 +96,7 @@ pub enum Action<'a> {
         start: Option<u64>,
         count: Option<u64>,
         image: &'a str,
-        revision: u64,
+        revision: Option<u64>,
         sources: Vec<&'a str>,
     },
     /// Make the bytes of a file the last text of the image of a file, whose session has these sources: the image is
@@ -112,7 +112,7 @@ pub enum Action<'a> {
     Restore {
         at_most: Option<u64>,
         image: &'a str,
-        revision: u64,
+        revision: Option<u64>,
         file: &'a str,
         sources: Vec<&'a str>,
     },

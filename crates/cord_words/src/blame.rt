@@ -1,4 +1,4 @@
-//! `blame [--at-most LOOKS] [--start START] [--count COUNT] IMAGE REV [SOURCE]...`
+//! `blame [--at-most LOOKS] [--start START] [--count COUNT] IMAGE [REV] [SOURCE]...`
 
 ghost use Rattle.std.specs.Prelude.{◌≡◌, ◌∷◌, [], IfErr, IfOk, Some, codes, false};
 ghost use Rattle.clap.specs.Words.{app_of, found_of, rows_of};
@@ -24,7 +24,7 @@ pub fn command<'a>(alloc: Global) -> Result<Command<'a>, AllocError>
     let command = args::with(command, args::from(alloc));
     let command = args::with(command, args::count(alloc));
     let command = args::with(command, args::image(alloc));
-    let command = args::with(command, args::revision(alloc));
+    let command = args::with(command, args::optional_revision(alloc));
     args::with(command, args::sources(alloc))
 }
 
@@ -44,7 +44,7 @@ pub fn action<'a>(
         start: given::optional_number(alloc, command, given, "START")?,
         count: given::optional_number(alloc, command, given, "COUNT")?,
         image: given::text(given, "IMAGE"),
-        revision: given::number(alloc, command, given, "REV")?,
+        revision: given::revision(alloc, command, given, "REV")?,
         sources: given::texts(alloc, given, "SOURCE")?,
     })
 }

@@ -5,7 +5,7 @@ ghost use Rattle.std.specs.List.{AllZip};
 ghost use Rattle.std.specs.Option.{option_map};
 ghost use Rattle.clap.specs.Words.{first_of, found_of, rows_of};
 ghost use Rattle.clap.specs.declared.error.kind.ErrorKind.TheVariants.{ValueValidation};
-ghost use Rattle.cord_words.specs.Words.{EachReadsAs, IsNumber, MayReadAs, ReadsAs, argument_text, argument_texts, is_set};
+ghost use Rattle.cord_words.specs.Words.{EachReadsAs, IsNumber, IsRevisionWord, MayReadAs, NamesRevision, ReadsAs, argument_text, argument_texts, is_set};
 ghost use Rattle.cord_words.specs.Refusals.{FailsAs};
 
 use crate::action::Lengths;
@@ -13,6 +13,9 @@ use crate::fault::WordsFault;
 use clap::error::ErrorKind;
 use clap::{ArgMatches, Command};
 use std::alloc::{AllocError, Global};
+
+/// The word for the last revision.
+const LAST: &str = "last";
 
 /// The text of an argument, and the empty text where it has none.
 pub fn text<'a>(given: &ArgMatches<'a>, id: &str) -> &'a str
@@ -106,6 +109,26 @@ pub fn optional_number(
     match optional_text(given, id) {
         None => Ok(None),
         Some(text) => Ok(Some(parsed(alloc, command, id, text)?)),
+    }
+}
+
+/// The number of the revision that an argument names; none, where that is the last one, as where it was not given.
+/// Where its text is neither `last` nor a number of 64 bits, the fault is one of `command`.
+pub fn revision(
+    alloc: Global,
+    command: &mut Command<'_>,
+    given: &ArgMatches<'_>,
+    id: &str,
+) -> Result<Option<u64>, WordsFault>
+    ensures names { IfOk result (NamesRevision (first_of id.now (rows_of (found_of given.now)))) }
+    ensures only_memory { IfErr result (λ f.
+        IfSome (first_of id.now (rows_of (found_of given.now))) IsRevisionWord → f ≡ WordsFault.Memory) }
+    ensures kind { IfErr result (FailsAs (ValueValidation ∷ [])) }
+{
+    match optional_text(given, id) {
+        None => Ok(None),
+        Some(text) if text == LAST => Ok(None),
+        Some(number) => Ok(Some(parsed(alloc, command, id, number)?)),
     }
 }
 

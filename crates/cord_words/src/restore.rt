@@ -41,7 +41,7 @@ pub fn action<'a>(
     Ok(Action::Restore {
         at_most: given::optional_number(alloc, command, given, "LOOKS")?,
         image: given::text(given, "IMAGE"),
-        revision: given::number(alloc, command, given, "REV")?,
+        revision: given::revision(alloc, command, given, "REV")?,
         file: given::text(given, "FILE"),
         sources: given::texts(alloc, given, "SOURCE")?,
     })

@@ -1,4 +1,4 @@
-//! `show [--at-most LOOKS] IMAGE REV [SOURCE]...`
+//! `show [--at-most LOOKS] IMAGE [REV] [SOURCE]...`
 
 ghost use Rattle.std.specs.Prelude.{◌≡◌, ◌∷◌, [], IfErr, IfOk, Some, codes, false};
 ghost use Rattle.clap.specs.Words.{app_of, found_of, rows_of};
@@ -23,10 +23,10 @@ pub fn command<'a>(alloc: Global) -> Result<Command<'a>, AllocError>
         "show",
         "Write the text of one revision of a saved session",
     );
-    let revision = args::required(alloc, "REV", "The number of the revision, counted from 0");
     let command = args::with(Ok(command), args::limit(alloc));
     let command = args::with(command, args::image(alloc));
-    args::with(args::with(command, revision), args::sources(alloc))
+    let command = args::with(command, args::optional_revision(alloc));
+    args::with(command, args::sources(alloc))
 }
 
 /// The action of what was given. Where a number does not read, the fault is one of `command`.
@@ -43,7 +43,7 @@ pub fn action<'a>(
     Ok(Action::Show {
         at_most: given::optional_number(alloc, command, given, "LOOKS")?,
         image: given::text(given, "IMAGE"),
-        revision: given::number(alloc, command, given, "REV")?,
+        revision: given::revision(alloc, command, given, "REV")?,
         sources: given::texts(alloc, given, "SOURCE")?,
     })
 }

@@ -6,11 +6,13 @@ use crate::digests::SourceLines;
 use crate::faults::Faults;
 use crate::file_state::{FileState, is_named, state_behind};
 use crate::image_file::ImageFile;
+use crate::last_commit::{is_committed_from, keep_committed, tell_other};
 use crate::meter::Meter;
 use crate::opening::{open, opened_sources, told_size};
 use commit_tools::{Commit, CommitFault, run_commit, run_commit_anew};
 use cord_tools::{Status, ToolFault, read_image, read_source};
 use edit_commands::EditFault;
+use image_reader::Image;
 use lazy_file::Sources;
 use leaf_buffer::POOL_LIMIT;
 use node_table::NodeFault;
@@ -116,6 +118,10 @@ pub(crate) struct Begun<'a> {
     image: ImageFile<'a>,
     text: Vec<u8>,
     is_new: bool,
+    /// So many bytes has the image that is there.
+    size: u64,
+    /// Its last revision, where that was not committed from the file.
+    other: Option<u32>,
 }
 
 /// Looks at the image, and reads the file.
@@ -136,7 +142,29 @@ pub(crate) fn begin<'a>(
         image,
         text,
         is_new: there.is_none_or(|state| state.size == 0),
+        size: there.map_or(0, |state| state.size),
+        other: None,
     })
+}
+
+/// The number of the last revision of the image that is there, where it was not committed from the file.
+fn other_revision(
+    rt: &HostRuntime,
+    words: Committing<'_>,
+    begun: &Begun<'_>,
+    bytes: &[u8],
+) -> Result<Option<u32>, ToolFault> {
+    if is_committed_from(rt, begun.image.path(), begun.size, words.file)? {
+        return Ok(None);
+    }
+    let Ok(image) = Image::read(bytes) else {
+        return Ok(None);
+    };
+    match image.revision_count().checked_sub(1) {
+        // Of an empty text nothing is taken out.
+        Some(last) if image.root(last).is_some() => Ok(Some(last)),
+        _ => Ok(None),
+    }
 }
 
 /// The commit behind an image that is there.
@@ -151,6 +179,7 @@ fn commit_onto<S: Sources>(
     begun.image.keep_whole(&older)?;
     let expected = told_size(&older);
     let bytes = read_image(rt.alloc(), older, expected)?;
+    begun.other = other_revision(rt, words, begun, &bytes)?;
     meter.start("records");
     let commit = run_commit(
         rt.alloc(),
@@ -182,14 +211,25 @@ fn committed<S: Sources>(
 /// Puts the image in its place, and gives the line of the answer. That is made first: nothing wants memory behind it.
 fn put_and_tell(
     rt: &HostRuntime,
-    image: &ImageFile<'_>,
+    words: Committing<'_>,
+    begun: &Begun<'_>,
     commit: Commit,
     lines: &SourceLines,
 ) -> Result<String, ToolFault> {
     let line = format!(in rt.alloc(); "{commit}\n")?;
-    image.put_here()?;
-    if let Commit::Added(_) = commit {
-        lines.keep_beside(rt, image.path());
+    begun.image.put_here()?;
+    let image = begun.image.path();
+    let is_added = matches!(commit, Commit::Added(_));
+    if is_added {
+        lines.keep_beside(rt, image);
+    }
+    if let (Some(revision), true) = (begun.other, is_added) {
+        // Where there is no memory for it, nothing is told.
+        let _ = tell_other(rt, words.image, words.file, revision);
+    }
+    if begun.other.is_some() || is_added {
+        // What is not kept is told by the next commit.
+        let _ = keep_committed(rt, image, words.file);
     }
     Ok(line)
 }
@@ -204,7 +244,7 @@ fn commit_once<S: Sources>(
     meter: &mut Meter<'_>,
 ) -> Result<String, ToolFault> {
     let put = match committed(rt, words, begun, sources, &mut *meter) {
-        Ok(commit) => put_and_tell(rt, &begun.image, commit, lines),
+        Ok(commit) => put_and_tell(rt, words, begun, commit, lines),
         Err(_) if begun.image.is_busy() => Err(ToolFault::OtherImage),
         Err(fault) => Err(begun.image.cause(fault)),
     };

@@ -1,5 +1,6 @@
 //! Digests of the files that a session was made from. They stand beside its image, which has the lengths of these files alone.
 
+use crate::side_file::{Found, found_at, write_by};
 use cord_tools::ToolFault;
 use key_journal::{END_SIZE, WHOLE_LIMIT};
 use sha2::{Digest, Sha256};
@@ -119,31 +120,11 @@ fn is_changed(then: &str, now: &str) -> bool {
     }
 }
 
-/// What stands under the name of a file of digests.
-#[derive(Drop)]
-enum Found {
-    Nothing,
-    Lines(String),
-    /// Something else, which stays.
-    Other,
-}
-
-/// What stands under this name.
-fn found_at(rt: &HostRuntime, name: &str) -> Result<Found, ToolFault> {
-    match fs::metadata(rt, name) {
-        Ok(metadata) if metadata.is_file() && metadata.len() <= MOST => {}
-        Err(error) if error.kind() == ErrorKind::NotFound => return Ok(Found::Nothing),
-        _ => return Ok(Found::Other),
-    }
-    let text = match fs::read_to_string(rt, name) {
-        Ok(text) => text,
-        Err(error) if error.kind() == ErrorKind::OutOfMemory => return Err(ToolFault::Memory),
-        Err(_) => return Ok(Found::Other),
-    };
-    if are_lines(&text) {
-        Ok(Found::Lines(text))
-    } else {
-        Ok(Found::Other)
+/// What stands under the name of a file of digests. Something else than such a file stays.
+fn lines_at(rt: &HostRuntime, name: &str) -> Result<Found, ToolFault> {
+    match found_at(rt, name, MOST)? {
+        Found::Text(text) if !are_lines(&text) => Ok(Found::Other),
+        found => Ok(found),
     }
 }
 
@@ -157,14 +138,14 @@ fn kept_beside(rt: &HostRuntime, image: &str) -> Result<String, ToolFault> {
     };
     let whole = whole.as_str();
     let name = format!(in rt.alloc(); "{whole}.sources")?;
-    match found_at(rt, &name)? {
-        Found::Lines(text) => Ok(text),
+    match lines_at(rt, &name)? {
+        Found::Text(text) => Ok(text),
         Found::Nothing | Found::Other => Ok(nothing),
     }
 }
 
 /// Tells a sentence on standard error. Control characters of a name are shown as question marks.
-fn tell(rt: &HostRuntime, sentence: &str) -> Result<(), ToolFault> {
+pub fn tell(rt: &HostRuntime, sentence: &str) -> Result<(), ToolFault> {
     let mut shown = String::new(rt.alloc());
     for c in sentence.chars() {
         let c = if c.is_control() { '?' } else { c };
@@ -223,13 +204,6 @@ pub fn tell_changed(rt: &HostRuntime, image: &str, paths: &[&str]) -> Result<(),
     Ok(())
 }
 
-/// Writes a new file with the permissions of an image.
-fn write_new(rt: &HostRuntime, name: &str, permissions: Permissions, text: &str) -> io::Result<()> {
-    let mut file = File::create_new(rt, name)?;
-    file.set_permissions(permissions)?;
-    file.write_all(text.as_bytes())
-}
-
 /// Gives a file of digests its text, where it has another one or is not there. What is no such file stays.
 fn replace(
     rt: &HostRuntime,
@@ -237,26 +211,18 @@ fn replace(
     permissions: Permissions,
     text: &str,
 ) -> Result<(), ToolFault> {
-    match found_at(rt, name)? {
-        Found::Lines(there) if there.as_str() == text => return Ok(()),
-        Found::Lines(_) | Found::Nothing => {}
+    match lines_at(rt, name)? {
+        Found::Text(there) if there.as_str() == text => return Ok(()),
+        Found::Text(_) | Found::Nothing => {}
         Found::Other => return Err(ToolFault::Write),
     }
     let part = format!(in rt.alloc(); "{name}.new")?;
-    match found_at(rt, &part)? {
-        Found::Lines(_) => fs::remove_file(rt, &part).map_err(|_| ToolFault::Write)?,
+    match lines_at(rt, &part)? {
+        Found::Text(_) => fs::remove_file(rt, &part).map_err(|_| ToolFault::Write)?,
         Found::Nothing => {}
         Found::Other => return Err(ToolFault::Write),
     }
-    let written = match write_new(rt, &part, permissions, text) {
-        Ok(()) => fs::rename(rt, &part, name),
-        Err(error) => Err(error),
-    };
-    if written.is_err() {
-        // What stays is replaced by the next one.
-        let _ = fs::remove_file(rt, &part);
-    }
-    written.map_err(|_| ToolFault::Write)
+    write_by(rt, &part, name, permissions, text)
 }
 
 /// The lines of the sources of a session that is about to be saved.

@@ -8,6 +8,7 @@ use crate::modes::Mode;
 use crate::old_image::{bring_back, keep, would_be_lost};
 use crate::opening::{sync_folder, told};
 use crate::part_file::{lock_in_turn, make_in_turn, remove_in_turn};
+use crate::side_file::follow;
 use crate::twin::have_same_bytes;
 use cord_tools::{ToolFault, may_replace};
 use std::fs::File;
@@ -425,6 +426,8 @@ impl<'a> ImageFile<'a> {
             bring_back(self.rt, path, name.as_str());
             return Err(fault);
         }
+        // Where there is no memory for it, what stands beside the image is replaced.
+        let _ = follow(self.rt, path, name.as_str());
         Ok(Put::Over(name))
     }
 

@@ -14,15 +14,18 @@ mod going_on;
 mod hint;
 mod image_file;
 mod journal;
+mod last_commit;
 mod meter;
 mod modes;
 mod old_image;
 mod opening;
 mod part_file;
 mod restoring;
+mod revision_words;
 mod saved_before;
 mod scripts;
 mod session_file;
+mod side_file;
 mod standard_streams;
 mod text_file;
 mod twin;
@@ -42,16 +45,18 @@ use crate::opening::{
     OpenedImage, names_of, opened_image, opened_image_of, opened_sources, opened_with_sources,
 };
 use crate::restoring::{Restoring, restore};
+use crate::revision_words::{wanted, with_last};
 use crate::scripts::{lens_of, read_script, refuse_script, write_log};
 use crate::standard_streams::StandardStreams;
-use cord_explanations::explained;
+use cord_explanations::{ShownName, explained};
 use cord_tools::{
     Outcome, Status, ToolFault, exit_status, read_image, refuse_check, run_check_told, run_cmp,
-    run_cut, run_find, run_find_all_told, run_join, run_migrate_told, run_show, run_stdin,
+    run_cut, run_find, run_find_all_told, run_join, run_migrate_told, run_show_wanted, run_stdin,
 };
 use cord_words::{Action, Lengths, Request, WordsFault, no_text, words};
 use lazy_file::Sources;
 use script_tools::{ApplyFault, BytesOfText, run_apply_told};
+use session_checker::WantedRevision;
 use std::io::{ErrorKind, IsTerminal};
 use std::marker::Brand;
 use std::process::ExitCode;
@@ -126,11 +131,11 @@ fn check<L: Ledger, W: io::Write>(
 fn show<L: Ledger>(
     rt: &HostRuntime,
     opened: Result<OpenedImage<L>, ToolFault>,
-    revision: u64,
+    revision: WantedRevision,
     faults: &Faults,
 ) -> Result<Status, ToolFault> {
     let mut image = opened?;
-    run_show(
+    run_show_wanted(
         rt.alloc(),
         image.file,
         image.expected,
@@ -361,7 +366,7 @@ fn run_blame_or_stdin<L: Ledger, W: io::Write>(
             rt,
             opened_image::<L>(rt, *at_most, image, sources, blank),
             BytesOfText {
-                revision: *revision,
+                revision: wanted(*revision),
                 start: start.unwrap_or(0),
                 count: count.unwrap_or(u64::MAX),
             },
@@ -373,6 +378,47 @@ fn run_blame_or_stdin<L: Ledger, W: io::Write>(
             let input = answer.faults().input(STANDARD_INPUT, rt.reader());
             run_stdin(rt.alloc(), input, answer)
         }
+    }
+}
+
+/// Writes what an image records, anew or as a script, where the words ask for it; or does what else they ask for.
+fn run_over_records<L: Ledger, W: io::Write>(
+    rt: &HostRuntime,
+    action: &Action<'_>,
+    answer: &mut Answer<'_, W>,
+    meter: &mut Meter<'_>,
+    blank: Blank,
+) -> Result<Status, ToolFault>
+    requires name { blank.name ≡ L.name }
+    requires parts { blank.parts ≡ L.parts }
+    requires many { blank.parts ≡ 2 ^ 64 - 1 }
+{
+    match action {
+        Action::Migrate {
+            at_most,
+            lengths,
+            image,
+            sources,
+        } => migrate(
+            rt,
+            opened_with::<L>(rt, *at_most, lengths, image, sources, blank),
+            answer.faults(),
+            meter,
+        ),
+        Action::Log {
+            at_most,
+            lengths,
+            brief,
+            image,
+            sources,
+        } => log(
+            rt,
+            opened_with::<L>(rt, *at_most, lengths, image, sources, blank),
+            *brief,
+            answer.faults(),
+            meter,
+        ),
+        _ => run_blame_or_stdin::<L, W>(rt, action, answer, meter, blank),
     }
 }
 
@@ -408,34 +454,10 @@ fn run_over_image<L: Ledger, W: io::Write>(
         } => show(
             rt,
             opened_with_sources::<L>(rt, *at_most, image, sources, blank),
-            *revision,
+            wanted(*revision),
             answer.faults(),
         ),
-        Action::Migrate {
-            at_most,
-            lengths,
-            image,
-            sources,
-        } => migrate(
-            rt,
-            opened_with::<L>(rt, *at_most, lengths, image, sources, blank),
-            answer.faults(),
-            meter,
-        ),
-        Action::Log {
-            at_most,
-            lengths,
-            brief,
-            image,
-            sources,
-        } => log(
-            rt,
-            opened_with::<L>(rt, *at_most, lengths, image, sources, blank),
-            *brief,
-            answer.faults(),
-            meter,
-        ),
-        _ => run_blame_or_stdin::<L, W>(rt, action, answer, meter, blank),
+        _ => run_over_records::<L, W>(rt, action, answer, meter, blank),
     }
 }
 
@@ -527,7 +549,7 @@ fn run_states<L: Ledger, W: io::Write>(
             let words = Restoring {
                 at_most: *at_most,
                 image,
-                revision: *revision,
+                revision: wanted(*revision),
                 file,
                 sources,
                 faults: answer.faults(),
@@ -666,6 +688,17 @@ fn run_request(rt: &HostRuntime, request: &Request<'_>) -> Outcome {
     outcome
 }
 
+/// Tells why words were not taken. They may hold control characters, which a terminal would take for its own.
+fn tell_misuse(rt: &HostRuntime, error: &clap::Error) {
+    let Ok(told) = format!(in rt.alloc(); "{error}") else {
+        return;
+    };
+    for name in told.lines() {
+        // There is no other place to tell that standard error is closed.
+        let _ = rt.eprintln(ShownName { name });
+    }
+}
+
 /// What was asked for is not in the words.
 fn refused_words(rt: &HostRuntime, fault: WordsFault) -> Outcome {
     match fault {
@@ -675,8 +708,7 @@ fn refused_words(rt: &HostRuntime, fault: WordsFault) -> Outcome {
             Err(_) => outcome(rt, Err(ToolFault::Write)),
         },
         WordsFault::Usage(error) => {
-            // There is no other place to tell that standard error is closed.
-            let _ = rt.eprint(error);
+            tell_misuse(rt, &error);
             Outcome::Misused
         }
     }
@@ -692,6 +724,9 @@ fn run_words(rt: &HostRuntime) -> Outcome {
         Err(_) => return outcome(rt, Err(ToolFault::Memory)),
     };
     let Ok(given) = given.collect::<Vec<String>>(rt.alloc()) else {
+        return outcome(rt, Err(ToolFault::Memory));
+    };
+    let Ok(given) = with_last(rt.alloc(), given) else {
         return outcome(rt, Err(ToolFault::Memory));
     };
     match words(rt.alloc(), &given) {

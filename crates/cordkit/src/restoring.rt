@@ -8,8 +8,10 @@ use crate::faults::Faults;
 use crate::meter::Meter;
 use crate::opening::{OpenedImage, opened_with_sources};
 use crate::text_file::{Part, TextFile};
-use cord_tools::{Status, ToolFault, run_show};
+use cord_tools::{Status, ToolFault, run_show_wanted};
 use lazy_file::Sources;
+use session_checker::WantedRevision;
+use std::fs;
 use std::sync::ledger::{Blank, Ledger};
 
 /// Which revision of an image a file gets the text of.
@@ -17,10 +19,24 @@ use std::sync::ledger::{Blank, Ledger};
 pub struct Restoring<'a> {
     pub at_most: Option<u64>,
     pub image: &'a str,
-    pub revision: u64,
+    pub revision: WantedRevision,
     pub file: &'a str,
     pub sources: &'a [&'a str],
     pub faults: &'a Faults,
+}
+
+/// Refuses the file beside an image that is to be the next one.
+fn refuse_part(rt: &HostRuntime, image: &str, file: &TextFile) -> Result<(), ToolFault> {
+    let whole = fs::canonicalize(rt, image);
+    let path = match &whole {
+        Ok(whole) => whole.as_str(),
+        Err(_) => image,
+    };
+    let part = format!(in rt.alloc(); "{path}.new")?;
+    if file.is_called(rt, &part) {
+        return Err(ToolFault::OwnFile);
+    }
+    Ok(())
 }
 
 /// Commits what the file holds, and tells that.
@@ -54,7 +70,7 @@ fn write_and_put<'a, L: Ledger>(
     meter: &mut Meter<'_>,
 ) -> Result<(), ToolFault> {
     let mut image = image;
-    run_show(
+    run_show_wanted(
         rt.alloc(),
         image.file,
         image.expected,
@@ -80,8 +96,10 @@ pub fn restore<L: Ledger>(
     requires parts { blank.parts ≡ L.parts }
     requires many { 2 * length words.sources.now < blank.parts }
 {
-    let file = TextFile::find(rt, words.file, words.faults)?;
+    let mut file = TextFile::find(rt, words.file, words.faults)?;
     let image = opened_with_sources::<L>(rt, words.at_most, words.image, words.sources, blank)?;
+    refuse_part(rt, words.image, &file)?;
+    file.has_text_of(rt, words.image);
     let mut part = file.part(rt, words.faults)?;
     let put = write_and_put(rt, words, &file, &mut part, image, meter);
     if put.is_err() {

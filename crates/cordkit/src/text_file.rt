@@ -9,6 +9,7 @@ use cord_tools::ToolFault;
 use std::fs::{self, File};
 use std::io::{self, ErrorKind};
 use std::os::unix::fs::OpenOptionsExt;
+use std::path::Path;
 
 /// A text is written beside its file under one of so many names.
 const NAMES: u32 = 999;
@@ -45,6 +46,14 @@ fn made(rt: &HostRuntime, name: &str, mode: Mode) -> io::Result<File> {
     Ok(file)
 }
 
+/// The folder in which a path leads to its last name.
+fn folder_of(rt: &HostRuntime, path: Path<'_>) -> Option<FileState> {
+    match path.parent() {
+        Some(folder) if !folder.as_str().is_empty() => state_behind(rt, folder.as_str()),
+        _ => state_behind(rt, "."),
+    }
+}
+
 impl TextFile {
     /// The file of this name, or none. A link is followed.
     ///
@@ -74,6 +83,17 @@ impl TextFile {
             mode,
             state,
         })
+    }
+
+    /// Where it was not there it gets the text of this file, and is open to nobody to whom that one is not.
+    pub fn has_text_of(&mut self, rt: &HostRuntime, path: &str) {
+        self.mode = self.mode.with_text_of(rt, path);
+    }
+
+    /// Whether it is a file of this name, in the folder of that name.
+    pub fn is_called(&self, rt: &HostRuntime, name: &str) -> bool {
+        let (own, other) = (Path::new(self.path.as_str()), Path::new(name));
+        own.file_name() == other.file_name() && folder_of(rt, own) == folder_of(rt, other)
     }
 
     /// Whether it was there.

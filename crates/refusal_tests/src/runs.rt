@@ -38,6 +38,7 @@ fn all_runs<A: AllocGlobal + Abort>(rt: &A, refusals: &mut Refusals) {
     scripts::images_behind(rt, refusals);
     scripts::logged(rt, refusals);
     scripts::blamed(rt, refusals);
+    scripts::served(rt, refusals);
     commits::committed(rt, refusals);
     commits::committed_anew(rt, refusals);
     editors::undo_then_type(rt, refusals);
@@ -195,6 +196,11 @@ fn logged(rt: HostRuntime) {
 #[test]
 fn blamed(rt: HostRuntime) {
     scripts::blamed(&rt, &mut Refusals::at_most(1));
+}
+
+#[test]
+fn served(rt: HostRuntime) {
+    scripts::served(&rt, &mut Refusals::at_most(1));
 }
 
 #[test]

@@ -1,18 +1,22 @@
 //! Scripts that are applied, the image of one, its log, and where its bytes come from.
 
-use crate::fakes::{ONE_INSERT_IN_TWO, Taker};
+use crate::fakes::{Giver, ONE_INSERT_IN_TWO, Taker};
 use crate::kept::{Reach, session_digest};
 use crate::refusals::{Refusals, TRIES, assert_same};
 use crate::sessions::{assert_text, session_of};
 use edit_commands::{EditFault, Session};
 use edit_script::{Room, Stop, Stopped, apply_script};
 use lazy_file::MemSources;
+use line_server::{End, Room as LineRoom, ServeFault};
 use saved_session::TakeFault;
 use script_tools::{
     ApplyFault, BlameFault, BytesOfText, LogFault, LogTexts, OntoFault, run_apply, run_apply_onto,
     run_blame, run_log,
 };
+use session_checker::WantedRevision;
+use session_server::{Speaking, serve_speaking};
 use std::alloc::AllocGlobal;
+use std::io::BufReader;
 use std::process::Abort;
 use work_progress::Untold;
 
@@ -184,7 +188,7 @@ pub(crate) fn logged<A: AllocGlobal + Abort>(rt: &A, refusals: &mut Refusals) {
 pub(crate) fn blamed<A: AllocGlobal + Abort>(rt: &A, refusals: &mut Refusals) {
     let lines = b"0 3 1 0 insert 0 0 \"abc\"\n".as_slice();
     let wanted = BytesOfText {
-        revision: 1,
+        revision: WantedRevision::Number(1),
         start: 0,
         count: 3,
     };
@@ -204,4 +208,73 @@ pub(crate) fn blamed<A: AllocGlobal + Abort>(rt: &A, refusals: &mut Refusals) {
         }
     }
     panic!(rt; "refused each time")
+}
+
+/// Requests, each with its answer. The first four make the revisions of `LINES`.
+const REQUESTS: [(&[u8], &[u8]); 8] = [
+    (b"new\n", b"0 0\n"),
+    (b"insert 0 0 \"abcdef\"\n", b"1 6\n"),
+    (b"many 1 1 2 \"X\" 4 0 \"YZ\" 5 1 \"\"\n", b"2 6\n"),
+    (b"paste 1 1 1 0 3\n", b"3 9\n"),
+    (b"length 1\n", b"1 6\n"),
+    (b"bytes 3 0 9\n", b"\"aabcbcdef\"\n"),
+    (b"find 3 1 \"bc\"\n", b"2\n"),
+    (b"last\n", b"3 9\n"),
+];
+
+/// Makes a request, and puts what it is answered into a writer.
+fn request<A: AllocGlobal + Abort>(
+    rt: &A,
+    speaking: &mut Speaking<MemSources<'static>>,
+    line: &[u8],
+    answers: &mut Taker,
+) -> Result<End, ServeFault> {
+    let Ok(mut requests) = BufReader::new(rt.alloc(), Giver { bytes: line }) else {
+        return Err(ServeFault::Memory);
+    };
+    let mut kept = Taker::new();
+    let mut room = LineRoom::new(rt.alloc());
+    serve_speaking(speaking, &mut requests, &mut kept, answers, &mut room)
+}
+
+/// Makes a request, once more where it was refused memory and made no revision.
+fn requested<A: AllocGlobal + Abort>(
+    rt: &A,
+    speaking: &mut Speaking<MemSources<'static>>,
+    line: &[u8],
+    wanted: &[u8],
+    refusals: &mut Refusals,
+) {
+    let before = speaking.session().count();
+    for _ in 0..TRIES {
+        let mut answers = Taker::new();
+        let end = request(rt, speaking, line, &mut answers);
+        if answers.taken() == wanted {
+            assert_same(rt, &end, &Ok(End::Input), &line);
+            return;
+        }
+        let told: &[u8] = match end {
+            Ok(_) => b"refused memory\n",
+            Err(_) => b"",
+        };
+        refusals.met(rt, &answers.taken(), &told);
+        if speaking.session().count() > before {
+            assert_same(rt, &end, &Err(ServeFault::Memory), &line);
+            return;
+        }
+    }
+    panic!(rt; "refused each time")
+}
+
+/// A session that takes requests.
+pub(crate) fn served<A: AllocGlobal + Abort>(rt: &A, refusals: &mut Refusals) {
+    let session = session_of(rt, &[], refusals);
+    let mut speaking = Speaking::new(rt.alloc(), session, MemSources::new(rt.alloc()));
+    for (line, wanted) in REQUESTS {
+        requested(rt, &mut speaking, line, wanted, refusals);
+    }
+    for (k, text) in (0u32..).zip(TEXTS.iter()) {
+        assert_text(rt, speaking.session(), k, *text);
+    }
+    assert_same(rt, &speaking.session().count(), &4, &"revisions");
 }

@@ -34,7 +34,7 @@ fn is_asked(request: &Request<'_>, number: usize) -> bool {
             Action::Show {
                 at_most: Some(137),
                 image: "a.cord",
-                revision: 2,
+                revision: Some(2),
                 sources,
             },
             1,

@@ -13,7 +13,7 @@ use Rattle.text_lines.specs.declared.fault.FrameFault.{FrameFault}
 use Rattle.text_lines.specs.Screen.{screen_of}
 use Rattle.text_lines.specs.Showing.{ReadsToShow}
 use Rattle.screen_editor.specs.declared.key.Key.{Key}
-use Rattle.screen_editor.specs.declared.key.Key.TheVariants.{Nothing}
+use Rattle.screen_editor.specs.declared.key.Key.TheVariants.{Nothing, Typed}
 use Rattle.screen_editor.specs.declared.noting.TheConstants.{MOST_UNTAKEN}
 use Rattle.screen_editor.specs.Editing.{Editing, EditorValue, EachCurrent, current_cell, current_len, key_code, state_of}
 use Rattle.screen_editor.specs.Keys.{key_of}
@@ -30,9 +30,11 @@ watch hint n e = record { editing = e; hint = hint; untaken = n }
 
 -- ---- how many of the last bytes were no key
 
--- a byte that is no key is one more, up to the most that are told, and a key ends the count
+-- a byte that is no key is one more, up to the most that are told; a byte that is typed leaves the count, so that it is
+-- there behind a paste, and any other key ends it
 abbrev pub untaken_by : Key → ℕ → ℕ
 untaken_by Nothing n = if nat_lt n MOST_UNTAKEN then n + 1 else n
+untaken_by (Typed b) n = n
 untaken_by _ n = 0
 
 abbrev pub untaken_behind : ℕ → List ℕ → ℕ

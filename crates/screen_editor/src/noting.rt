@@ -11,10 +11,14 @@ use std::alloc::{AllocError, Global};
 /// The most bytes that are told as not taken.
 pub(crate) const MOST_UNTAKEN: u32 = 999_999;
 
-/// How many of the last bytes were no key, once this one is taken.
+/// How many of the last bytes were no key, once this one is taken. Bytes that are typed or pasted behind them leave
+/// the count.
 pub(crate) fn untaken_by(key: Key, untaken: u32) -> u32
     ensures { result ≡ untaken_by key untaken }
 {
+    if matches!(key, Key::Typed(_)) {
+        return untaken;
+    }
     if !matches!(key, Key::Nothing) {
         return 0;
     }

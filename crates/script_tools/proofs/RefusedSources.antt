@@ -1,9 +1,10 @@
 -- Sources are added one by one, up to the first that is refused.
-use Rattle.std.proofs.Common.{◌≡◌, ℕ, ◌<◌, inl, inr, List, length, get_or, take, Err, Ok, Result, sym, ap, subst, arith, ◌∙◌}
+use Rattle.std.proofs.Common.{◌≡◌, ℕ, ◌<◌, ◌≤◌, inl, inr, List, length, get_or, take, Err, Ok, Result, sym, ap, subst, arith, ◌∙◌}
 use Rattle.std.proofs.lemmas.List.{length-take-le}
 use Rattle.function_leaf.specs.Coded.{coded_byte}
 use Rattle.rope_node.specs.declared.limits.TheConstants.{MOST_SOURCES, TEXT_LIMIT}
 use Rattle.node_table.specs.declared.fault.NodeFault.{NodeFault}
+use Rattle.node_table.specs.declared.node_table.TheConstants.{FEW_SOURCES}
 use Rattle.node_table.specs.Puts.{AddsSource}
 use Rattle.edit_commands.specs.declared.fault.EditFault.{EditFault}
 use Rattle.edit_commands.specs.Applying.{AddsSourceOrNot}
@@ -22,7 +23,7 @@ refused_source old new n len f many h = of_plain h.plain h.told h.adds
         elim adds.faults [
           | inl full ↦ subst (IsSourceFault n len) (sym (is ∙ ap node_fault full)) (sym many ∙ adds.too_many.0 (ap Err full))
           | inr (inl long) ↦ (let found = adds.too_long.0 (ap Err long) in subst (IsSourceFault n len) (sym (is ∙ ap node_fault long)) (subst (λ (k : ℕ). k < MOST_SOURCES) many found.0, found.1))
-          | inr (inr memory) ↦ subst (IsSourceFault n len) (sym (is ∙ ap node_fault memory)) tt
+          | inr (inr memory) ↦ subst (IsSourceFault n len) (sym (is ∙ ap node_fault memory)) (subst (λ (k : ℕ). FEW_SOURCES ≤ k) many (adds.memory (ap Err memory)))
         ]
 
 pub first_refused : (old new : SessionValue) (lens : List ℕ) (n : ℕ) (f : EditFault) → n < length lens → old.held.sources ≡ take n lens

@@ -4,6 +4,7 @@ use Rattle.std.specs.Io.KnownBytes.{Appends, Keeps}
 use Rattle.byte_output.specs.Prefix.{AppendsPrefix}
 use Rattle.rope_node.specs.declared.limits.TheConstants.{MOST_SOURCES, TEXT_LIMIT}
 use Rattle.node_table.specs.declared.fault.NodeFault.TheVariants.{TooManySources, TooLong}
+use Rattle.node_table.specs.declared.node_table.TheConstants.{FEW_SOURCES}
 use Rattle.edit_commands.specs.declared.fault.EditFault.{EditFault}
 use Rattle.edit_commands.specs.declared.fault.EditFault.TheVariants.{Node, Memory}
 use Rattle.edit_commands.specs.Session.{SessionValue, HoldsHistory, IsSession, new_session}
@@ -39,11 +40,11 @@ pub record IsStopped (lens script : List ℕ) (at : Stopped) : Type 0 where
   pub session : IsSession last
 
 -- why a source of this length is not added behind so many others: they are as many as there may be; or else it is too
--- long; or memory is refused
+-- long; or memory is refused, which few sources do not want
 abbrev pub IsSourceFault : ℕ → ℕ → EditFault → Type 0
 IsSourceFault n len (Node TooManySources) = n ≡ MOST_SOURCES
 IsSourceFault n len (Node TooLong) = (n < MOST_SOURCES) × (TEXT_LIMIT ≤ len)
-IsSourceFault n len Memory = Unit {0}
+IsSourceFault n len Memory = FEW_SOURCES ≤ n
 IsSourceFault n len _ = ⊥
 
 -- sources of these lengths are not added: the first that is refused is refused so

@@ -6,6 +6,7 @@ use Rattle.image_reader.specs.Value.{ImageValue}
 use Rattle.image_reader.specs.Accepted.{command_at}
 use Rattle.session_checker.specs.declared.fault.CheckFault.{CheckFault}
 use Rattle.session_checker.specs.Limits.{ChecksWithin}
+use Rattle.session_checker.specs.Wanted.{wanted_number}
 use Rattle.edit_script.specs.Words.{Word, Number, Quoted, line_of}
 use Rattle.edit_script.specs.Commands.{front_of}
 use Rattle.byte_origins.specs.declared.run.Brought.{Brought}
@@ -58,14 +59,20 @@ WritesRuns v k start count before after outcome =
     (runs : List OriginRun) × AreRuns (take count (drop start (origins_at v k))) runs
     × WritesText before after (blame_lines v start runs) outcome
 
+-- the number of the revision of an image whose bytes are asked about
+abbrev pub blamed_in : BytesOfText → ImageValue → ℕ
+blamed_in wanted v = wanted_number wanted.revision (length v.revisions)
+
 -- Of an accepted image that has the revision those lines were written; of one that has not, and of a refused one,
 -- nothing, and that is told.
 abbrev pub WritesBlame : BytesOfText → Option (List ℕ) → Option (List ℕ) → Result ImageValue CheckFault
     → Result (Unit {0}) BlameFault → Type 0
 WritesBlame wanted before after (Ok v) (Err (Check fault)) = ⊥
-WritesBlame wanted before after (Ok v) (Err NoRevision) = (length v.revisions ≤ wanted.revision) × Keeps before after
+WritesBlame wanted before after (Ok v) (Err NoRevision) =
+    (length v.revisions ≤ blamed_in wanted v) × Keeps before after
 WritesBlame wanted before after (Ok v) outcome =
-    (wanted.revision < length v.revisions) × WritesRuns v wanted.revision wanted.start wanted.count before after outcome
+    (blamed_in wanted v < length v.revisions)
+    × WritesRuns v (blamed_in wanted v) wanted.start wanted.count before after outcome
 WritesBlame wanted before after (Err fault) outcome = Keeps before after × (outcome ≡ Err (Check fault))
 
 -- what run_blame does: it checks the image, as check_at_most does, and writes where the bytes come from

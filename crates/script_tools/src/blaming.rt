@@ -124,10 +124,12 @@ fn blame_checked<W: io::Write>(
 ) -> Result<(), BlameFault>
     ensures { WritesBlame wanted (W.contents writer.old) (W.contents writer.new) (Ok image.now) result }
 {
-    if wanted.revision >= u64::from(image.revisions()) {
+    let count = image.revisions();
+    let revision = wanted.revision.number(count);
+    if revision >= u64::from(count) {
         return Err(BlameFault::NoRevision);
     }
-    let k = wanted.revision as u32;
+    let k = revision as u32;
     match write_runs(alloc, image, k, wanted.start, wanted.count, writer) {
         Ok(()) => Ok(()),
         Err(PieceFault::Memory) => Err(BlameFault::Memory),

@@ -5,3 +5,4 @@ pub mod RevisionRules
 pub mod Accepted
 pub mod Faithful
 pub mod Limits
+pub mod Wanted

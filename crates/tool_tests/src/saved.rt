@@ -4,11 +4,11 @@ use crate::fakes::{Full, Giver, Taker};
 use crate::images::{ONE_INSERT, ONE_INSERT_IN_TWO, OPEN_SOURCE};
 use crate::same::assert_same;
 use crate::tools::{show, texts_in};
-use cord_tools::{Status, ToolFault, run_edit, run_edit_onto, run_kept_onto};
+use cord_tools::{Status, ToolFault, run_edit, run_edit_onto, run_kept_onto, run_show_wanted};
 use image_reader::ReadFault;
 use key_journal::Kept;
 use saved_session::TakeFault;
-use session_checker::CheckFault;
+use session_checker::{CheckFault, WantedRevision};
 use std::alloc::AllocGlobal;
 use std::process::Abort;
 
@@ -49,6 +49,18 @@ fn assert_texts<R: AllocGlobal + Abort>(rt: &R, image: &[u8], texts: &[&[u8]]) {
     let mut found: Vec<u8> = Vec::new(rt.alloc());
     let none = show(rt, Giver::of(image), &mut texts_in(rt, &[]), k, &mut found);
     assert_same(rt, &none, &Err(ToolFault::NoRevision), &k);
+    let mut last: Vec<u8> = Vec::new(rt.alloc());
+    let shown = run_show_wanted(
+        rt.alloc(),
+        Giver::of(image),
+        0,
+        &mut texts_in(rt, &[]),
+        None,
+        WantedRevision::Last,
+        &mut last,
+    );
+    assert_same(rt, &shown, &Ok(()), &k);
+    assert_same(rt, &Some(&last.as_slice()), &texts.last(), &k);
 }
 
 // What was typed is saved, and undone behind that, and again behind another save.

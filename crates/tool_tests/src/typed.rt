@@ -118,18 +118,23 @@ fn frames_are_left_out_while_keys_are_there(rt: HostRuntime) {
 fn bytes_that_are_not_taken_are_counted(rt: HostRuntime) {
     let one = ("", "rev 0 byte 0 of 0 bytes not taken: 1", 1);
     let three = ("", "rev 0 byte 0 of 0 bytes not taken: 3", 1);
-    let typed = ("a", "rev 1 byte 1 of 1", 2);
-    let blocks: [&[u8]; 4] = [b"\x80", b"\xc3\xa9", b"a", b"\x18"];
+    let typed = ("a", "rev 1 byte 1 of 1 bytes not taken: 3", 2);
+    let back = ("a", "rev 1 byte 0 of 1", 1);
+    let blocks: [&[u8]; 5] = [b"\x80", b"\xc3\xa9", b"a", b"\x02", b"\x18"];
     assert_shown(
         &rt,
         b"",
         &blocks,
-        &[FIRST, one, three, typed],
-        b"\x80\xc3\xa9a",
+        &[FIRST, one, three, typed, back],
+        b"\x80\xc3\xa9a\x02",
     );
     // What is pasted and no text is no key.
     let blocks: [&[u8]; 2] = [b"\x1b[200~\xc3\xa9\x03\x1b[201~", b"\x18"];
     assert_shown(&rt, b"", &blocks, &[FIRST, three], b"\x80\x80\x80");
+    // So they are within a paste.
+    let named = ("nave", "rev 4 byte 4 of 4 bytes not taken: 2", 5);
+    let blocks: [&[u8]; 2] = [b"\x1b[200~na\xc3\xafve\x1b[201~", b"\x18"];
+    assert_shown(&rt, b"", &blocks, &[FIRST, named], b"na\x80\x80ve");
     // They are counted over keys that are played.
     assert_shown(&rt, b"\x80\x80\x80", &[b"\x18"], &[three], b"");
 }

@@ -151,7 +151,7 @@ fn codes_of_an_edit_behind_an_image_are_explained(rt: HostRuntime) -> Result<(),
             (
                 edit(),
                 "J4",
-                "J4: b.cord is not what was there when the session began, and stays as it is",
+                "J4: another run has put something else in place of b.cord, or is writing to it: it stays as it is",
             ),
             (edit(), "read", "read: there is no file missing/a.cord"),
         ],
@@ -187,12 +187,12 @@ fn codes_of_a_commit_are_explained(rt: HostRuntime) -> Result<(), Fail> {
             (
                 commit(),
                 "J2",
-                "J2: another session keeps its keys in missing/a.cord.keys",
+                "J2: a session keeps its keys in missing/a.cord.keys, and has not saved them",
             ),
             (
                 commit(),
                 "J4",
-                "J4: missing/a.cord is not what was there when the session began, and stays as it is",
+                "J4: another run has put something else in place of missing/a.cord, or is writing to it: it stays as it is",
             ),
             (
                 commit(),

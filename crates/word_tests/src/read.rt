@@ -61,14 +61,6 @@ fn words_over_images_are_read(rt: HostRuntime) -> Result<(), Fail> {
                 r#"Check { at_most: None, lengths: Lengths { numbers: [], files_before: [] }, image: "a", sources: ["b", "-c"] }"#,
             ),
             (
-                "cordkit show a 18446744073709551615 c b",
-                r#"Show { at_most: None, image: "a", revision: 18446744073709551615, sources: ["c", "b"] }"#,
-            ),
-            (
-                "cordkit show a 2 --at-most 137",
-                r#"Show { at_most: Some(137), image: "a", revision: 2, sources: [] }"#,
-            ),
-            (
                 "cordkit migrate --at-most 0 a b",
                 r#"Migrate { at_most: Some(0), lengths: Lengths { numbers: [], files_before: [] }, image: "a", sources: ["b"] }"#,
             ),
@@ -97,13 +89,42 @@ fn words_over_images_are_read(rt: HostRuntime) -> Result<(), Fail> {
                 "ValueValidation",
             ),
             ("cordkit check --length 1 --length x a", "ValueValidation"),
+        ],
+    )
+}
+
+#[test]
+fn words_that_name_a_revision_are_read(rt: HostRuntime) -> Result<(), Fail> {
+    assert_told(
+        &rt,
+        &[
+            (
+                "cordkit show a 18446744073709551615 c b",
+                r#"Show { at_most: None, image: "a", revision: Some(18446744073709551615), sources: ["c", "b"] }"#,
+            ),
+            (
+                "cordkit show a 2 --at-most 137",
+                r#"Show { at_most: Some(137), image: "a", revision: Some(2), sources: [] }"#,
+            ),
+            (
+                "cordkit show a",
+                r#"Show { at_most: None, image: "a", revision: None, sources: [] }"#,
+            ),
+            (
+                "cordkit show --at-most 0 a last b",
+                r#"Show { at_most: Some(0), image: "a", revision: None, sources: ["b"] }"#,
+            ),
             (
                 "cordkit blame a 2 b",
-                r#"Blame { at_most: None, start: None, count: None, image: "a", revision: 2, sources: ["b"] }"#,
+                r#"Blame { at_most: None, start: None, count: None, image: "a", revision: Some(2), sources: ["b"] }"#,
             ),
             (
                 "cordkit blame --start 4 --count=1 --at-most 7 a 2",
-                r#"Blame { at_most: Some(7), start: Some(4), count: Some(1), image: "a", revision: 2, sources: [] }"#,
+                r#"Blame { at_most: Some(7), start: Some(4), count: Some(1), image: "a", revision: Some(2), sources: [] }"#,
+            ),
+            (
+                "cordkit blame a --start 4",
+                r#"Blame { at_most: None, start: Some(4), count: None, image: "a", revision: None, sources: [] }"#,
             ),
         ],
     )
@@ -136,11 +157,15 @@ fn words_of_scripts_and_commits_are_read(rt: HostRuntime) -> Result<(), Fail> {
             ),
             (
                 "cordkit restore a 3 b",
-                r#"Restore { at_most: None, image: "a", revision: 3, file: "b", sources: [] }"#,
+                r#"Restore { at_most: None, image: "a", revision: Some(3), file: "b", sources: [] }"#,
+            ),
+            (
+                "cordkit restore a last b",
+                r#"Restore { at_most: None, image: "a", revision: None, file: "b", sources: [] }"#,
             ),
             (
                 "cordkit restore --at-most=7 a 3 b c d",
-                r#"Restore { at_most: Some(7), image: "a", revision: 3, file: "b", sources: ["c", "d"] }"#,
+                r#"Restore { at_most: Some(7), image: "a", revision: Some(3), file: "b", sources: ["c", "d"] }"#,
             ),
         ],
     )
@@ -223,7 +248,8 @@ fn words_are_refused_by_their_kinds(rt: HostRuntime) -> Result<(), Fail> {
             ("cordkit edit --onto o --onto p a", "ArgumentConflict"),
             ("cordkit frob", "InvalidSubcommand"),
             ("cordkit show a -1", "UnknownArgument"),
-            ("cordkit show a", "MissingRequiredArgument"),
+            ("cordkit show", "MissingRequiredArgument"),
+            ("cordkit show a LAST", "ValueValidation"),
             ("cordkit show a x", "ValueValidation"),
             ("cordkit check --at-most x a", "ValueValidation"),
             ("cordkit log --at-most x a", "ValueValidation"),

@@ -6,5 +6,5 @@ returns-clause-app c =
     let two = c.with-command-2.ensures.app _ _ one c.from.ensures.rule in
     let three = c.with-command-3.ensures.app _ _ two c.count.ensures.rule in
     let four = c.with-command-4.ensures.app _ _ three c.image.ensures.rule in
-    let five = c.with-command-5.ensures.app _ _ four c.revision.ensures.rule in
+    let five = c.with-command-5.ensures.app _ _ four c.optional_revision.ensures.rule in
     c.with.ensures.app _ _ five c.sources.ensures.rule

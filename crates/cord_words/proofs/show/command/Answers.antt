@@ -4,5 +4,5 @@ pub returns-clause-app : goal.returns-clause-app
 returns-clause-app c =
     let one = c.with-command.ensures.app _ _ c.command-command.ensures.app c.limit.ensures.rule in
     let two = c.with-command-2.ensures.app _ _ one c.image.ensures.rule in
-    let three = c.with.ensures.app _ _ two c.required-revision.ensures.rule in
-    c.with-2.ensures.app _ _ three c.sources.ensures.rule
+    let three = c.with-command-3.ensures.app _ _ two c.optional_revision.ensures.rule in
+    c.with.ensures.app _ _ three c.sources.ensures.rule

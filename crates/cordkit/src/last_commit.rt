@@ -1,0 +1,100 @@
+//! Which file the last text of an image was committed from, as a file beside the image keeps it.
+
+use crate::digests::tell;
+use crate::side_file::{Found, found_at, write_by};
+use cord_tools::ToolFault;
+use std::fs;
+use std::path::Path;
+
+/// The most bytes of what is kept: a number, and the name of a file.
+const MOST: u64 = 512;
+
+/// The name of a file in its folder, where a link is followed.
+fn name_of(rt: &HostRuntime, file: &str) -> Result<String, ToolFault> {
+    let whole = fs::canonicalize(rt, file);
+    let path = match &whole {
+        Ok(whole) => whole.as_str(),
+        Err(_) => file,
+    };
+    let name = Path::new(path).file_name().unwrap_or(path);
+    Ok(String::from_str(rt.alloc(), name)?)
+}
+
+/// The line of an image that has so many bytes, whose last text a file had.
+fn line_of(rt: &HostRuntime, size: u64, file: &str) -> Result<String, ToolFault> {
+    let name = name_of(rt, file)?;
+    Ok(format!(in rt.alloc(); "{size} {name}\n")?)
+}
+
+/// Whether a text is such a line.
+fn is_line(text: &str) -> bool {
+    match text.split_once(' ') {
+        Some((size, name)) => size.parse::<u64>().is_ok() && name.ends_with('\n'),
+        None => false,
+    }
+}
+
+/// Whether the last text of an image of so many bytes was committed from this file.
+///
+/// # Errors
+///
+/// `Memory`.
+pub fn is_committed_from(
+    rt: &HostRuntime,
+    image: &str,
+    size: u64,
+    file: &str,
+) -> Result<bool, ToolFault> {
+    let name = format!(in rt.alloc(); "{image}.committed")?;
+    let line = line_of(rt, size, file)?;
+    Ok(match found_at(rt, &name, MOST)? {
+        Found::Text(found) => found.as_str() == line.as_str(),
+        Found::Nothing | Found::Other => false,
+    })
+}
+
+/// Tells on standard error that a text was taken out which was not committed from the file.
+///
+/// # Errors
+///
+/// `Memory`.
+pub fn tell_other(
+    rt: &HostRuntime,
+    image: &str,
+    file: &str,
+    revision: u32,
+) -> Result<(), ToolFault> {
+    let sentence = format!(in rt.alloc();
+        "revision {revision} of {image} was not committed from {file}: \
+        what it had and {file} has not is taken out, and cordkit show {image} {revision} still gives it"
+    )?;
+    tell(rt, &sentence)
+}
+
+/// Whether a name is free, or has such a line.
+fn may_have_line(rt: &HostRuntime, name: &str) -> Result<bool, ToolFault> {
+    Ok(match found_at(rt, name, MOST)? {
+        Found::Nothing => true,
+        Found::Text(found) => is_line(&found),
+        Found::Other => false,
+    })
+}
+
+/// Keeps beside an image that is in its place which file its last text was committed from. Something else that stands
+/// there stays. Where it cannot be kept, the next commit tells that the text came from elsewhere.
+///
+/// # Errors
+///
+/// `Memory`. `Write`, where it was not kept.
+pub fn keep_committed(rt: &HostRuntime, image: &str, file: &str) -> Result<(), ToolFault> {
+    let metadata = fs::metadata(rt, image).map_err(|_| ToolFault::Write)?;
+    let name = format!(in rt.alloc(); "{image}.committed")?;
+    let part = format!(in rt.alloc(); "{name}.new")?;
+    if !metadata.is_file() || !may_have_line(rt, &name)? || !may_have_line(rt, &part)? {
+        return Err(ToolFault::Write);
+    }
+    let line = line_of(rt, metadata.len(), file)?;
+    // What an earlier run left of it is written anew.
+    let _ = fs::remove_file(rt, &part);
+    write_by(rt, &part, &name, metadata.permissions(), &line)
+}
