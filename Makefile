@@ -43,6 +43,7 @@ run:
 
 library:
 	cd crates/cord_c && rt lib && sh shared.sh
+	cd crates/cord_session && rt lib && sh archive.sh
 
 check:
 	rt ci
@@ -95,6 +96,7 @@ refuse:
 
 callers: library
 	sh crates/cord_c/callers/run.sh $(IMAGES) "$(PROGRAM)"
+	sh crates/cord_session/callers/run.sh 6 "$(PROGRAM)"
 
 wasm:
 	sh crates/cord_c/wasm.sh
