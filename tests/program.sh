@@ -842,6 +842,9 @@ so have its bytes;blame came_back 4;;0;0 3 1 0 many 0 "abc"\n3 2 2 3 many 1 "de"
 the first one comes back once more;commit came_back abc;;0;committed 5\n;revision 4 of came_back was not committed from abc: what it had and abc has not is taken out, and cordkit show came_back 4 still gives it\n
 the latest with a text is gone back to, by one command;log came_back;;0;new # 0: 0 bytes, depth 0, 0 rows\nmany 0 0 0 "abc" # 1: 3 bytes, depth 0, balanced, 1 rows\nmany 1 3 0 "de" # 2: 5 bytes, depth 0, balanced, 2 rows\nback 1 # 3: 3 bytes, depth 0, balanced, 1 rows\nback 2 # 4: 5 bytes, depth 0, balanced, 1 rows\nback 3 # 5: 3 bytes, depth 0, balanced, 1 rows\n;
 a state that is the last one;commit came_back abc;;0;same 5\n;
+what is left of a line that tells the file;commit $(printf 1 > came_back.committed && : > came_back.committed.new && cp ab turning && echo came_back) turning;;0;committed 6\n;revision 5 of came_back was not committed from turning: what it had and turning has not is taken out, and cordkit show came_back 5 still gives it\n
+that line is written anew;commit came_back $(cp abcde turning && echo turning);;0;committed 7\n;
+the last text is restored, and nothing of it was taken out;restore came_back last $(cp ab turned && echo turned);;0;committed 8\n;
 a file to commit that is not there;commit committed missing;;3;;read\n
 a file to commit that is a folder;commit committed folder;;3;;read\n
 a file to commit of 512 gigabytes;commit committed half;;1;;refused E7(N4)\n
@@ -860,7 +863,7 @@ a file that is not there is made;restore restored 2 note_anew;;0;;
 it has the text;cut 0 9 note_anew;;0;abcde;
 an empty text is restored;restore restored 0 note_anew;;0;same 7\n;
 the file is empty;cmp note_anew nothing;;0;equal\n;
-a file gets a text over a source;restore $(echo open 0 > open_script && "$program" apply open_script abc > opened && echo opened) 0 note_anew abc;;0;committed 1\n;revision 0 of opened was not committed from note_anew: what it had and note_anew has not is taken out, and cordkit show opened 0 still gives it\n
+a file gets a text over a source;restore $(echo open 0 > open_script && "$program" apply open_script abc > opened && echo opened) 0 note_anew abc;;0;committed 1\n;
 it has the bytes of the source;cut 0 9 note_anew;;0;abc;
 a revision that is not there to restore;restore restored 99 note;;1;;refused no revision\n
 an image to restore from that is not there;restore missing 0 note;;3;;read\n

@@ -16,6 +16,7 @@ use image_reader::Image;
 use lazy_file::Sources;
 use leaf_buffer::POOL_LIMIT;
 use node_table::NodeFault;
+use session_checker::WantedRevision;
 use std::fs;
 use std::io::{self, ErrorKind, Write};
 use std::sync::ledger::{Blank, Ledger};
@@ -34,7 +35,20 @@ pub struct Committing<'a> {
     pub image: &'a str,
     pub file: &'a str,
     pub sources: &'a [&'a str],
+    /// The revision whose text the file gets next, where it gets one.
+    pub restored: Option<WantedRevision>,
     pub faults: &'a Faults,
+}
+
+impl Committing<'_> {
+    /// Whether the file gets the text of this revision, the last one that was there.
+    fn brings_back(self, revision: u32) -> bool {
+        match self.restored {
+            Some(WantedRevision::Number(number)) => number == u64::from(revision),
+            Some(WantedRevision::Last) => true,
+            None => false,
+        }
+    }
 }
 
 /// How it is told why there is no new image.
@@ -223,9 +237,12 @@ fn put_and_tell(
     if is_added {
         lines.keep_beside(rt, image);
     }
-    if let (Some(revision), true) = (begun.other, is_added) {
-        // Where there is no memory for it, nothing is told.
-        let _ = tell_other(rt, words.image, words.file, revision);
+    match begun.other {
+        Some(revision) if is_added && !words.brings_back(revision) => {
+            // Where there is no memory for it, nothing is told.
+            let _ = tell_other(rt, words.image, words.file, revision);
+        }
+        _ => {}
     }
     if begun.other.is_some() || is_added {
         // What is not kept is told by the next commit.

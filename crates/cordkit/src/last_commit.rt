@@ -26,11 +26,11 @@ fn line_of(rt: &HostRuntime, size: u64, file: &str) -> Result<String, ToolFault>
     Ok(format!(in rt.alloc(); "{size} {name}\n")?)
 }
 
-/// Whether a text is such a line.
-fn is_line(text: &str) -> bool {
+/// Whether a text is such a line, or what is left of one where a run was killed, or the power failed.
+fn is_begun(text: &str) -> bool {
     match text.split_once(' ') {
-        Some((size, name)) => size.parse::<u64>().is_ok() && name.ends_with('\n'),
-        None => false,
+        Some((size, _)) => size.parse::<u64>().is_ok(),
+        None => text.is_empty() || text.parse::<u64>().is_ok(),
     }
 }
 
@@ -71,11 +71,11 @@ pub fn tell_other(
     tell(rt, &sentence)
 }
 
-/// Whether a name is free, or has such a line.
+/// Whether a name is free, or has such a line, or a part of one.
 fn may_have_line(rt: &HostRuntime, name: &str) -> Result<bool, ToolFault> {
     Ok(match found_at(rt, name, MOST)? {
         Found::Nothing => true,
-        Found::Text(found) => is_line(&found),
+        Found::Text(found) => is_begun(&found),
         Found::Other => false,
     })
 }

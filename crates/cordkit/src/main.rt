@@ -535,6 +535,7 @@ fn run_states<L: Ledger, W: io::Write>(
                 image,
                 file,
                 sources,
+                restored: None,
                 faults: answer.faults(),
             };
             commit::<L>(rt, words, meter, blank)

@@ -51,6 +51,7 @@ fn commit_first<'a, S: Sources>(
         image: words.image,
         file: words.file,
         sources: words.sources,
+        restored: Some(words.revision),
         faults: words.faults,
     };
     let begun = begin(rt, words)?;
