@@ -119,6 +119,14 @@ class Terminal:
             time.sleep(0.1)
         return False
 
+    def ends(self):
+        """Whether the program that runs in it comes to its end."""
+        for _ in range(200):
+            if not self.tmux("list-sessions"):
+                return True
+            time.sleep(0.1)
+        return False
+
     def end(self):
         self.tmux("kill-server")
         shutil.rmtree(self.socket)
@@ -160,6 +168,25 @@ def shown_until_read(name, why, env):
         require(terminal.shows(code, wanted=False), f"{why}: it stays on the screen")
         with open("refused.txt") as file:
             require(file.readline() == "typed\n", f"{why}: the file itself is not saved")
+    finally:
+        terminal.end()
+
+
+def written_together(env):
+    """Where vim writes several files and one is not committed, that is told until Enter is pressed, and the others are written; so at the end of a session."""
+    terminal = Terminal(["sh", "-c", REFUSED["an image that is none"][0], "sh", *settings("vim")], env)
+    try:
+        require(terminal.shows("refused.txt"), "vim does not begin")
+        terminal.type("ggOtyped", "Escape")
+        terminal.type(":set hidden | edit other.txt", "Enter")
+        require(terminal.shows("other.txt"), "vim does not open another file")
+        terminal.type("ggOtoo", "Escape")
+        terminal.type(":wqa", "Enter")
+        require(terminal.shows("refused.txtisnotcommitted:"), "nothing is told of the file that is not committed")
+        terminal.type("", "Enter")
+        require(terminal.ends(), "vim does not end")
+        with open("refused.txt") as file, open("other.txt") as other:
+            require((file.readline(), other.readline()) == ("typed\n", "too\n"), "a file is not written")
     finally:
         terminal.end()
 
@@ -221,6 +248,8 @@ def main():
                 if shutil.which("tmux"):
                     for why in REFUSED:
                         shown_until_read(name, why, env)
+                    if name == "vim":
+                        written_together(env)
                 else:
                     print(f"LEFT OUT: saves of {name} that are not committed: there is no tmux here")
                 passed += 1
