@@ -376,7 +376,7 @@ kept_by_name() {
 # A file that is restored has the one text or the other, and what it held is in the image then: killed before each call, and where each fails.
 restores() {
     clean; printf one > file; "$CORDKIT" commit older file > out; printf 'one two' > file; "$CORDKIT" commit older file >> out; printf three > file; cp older image
-    "$CORDKIT" restore image 1 file >> out; is 'restored' "$? $(cat out | tr '\n' ' ')$(cat file) $(text)" '0 committed 1 committed 2 committed 3 one three'
+    "$CORDKIT" restore image 1 file >> out 2> /dev/null; is 'restored' "$? $(cat out | tr '\n' ' ')$(cat file) $(text)" '0 committed 1 committed 2 committed 3 one three'
     command -v strace > /dev/null || { echo '    there is no strace here'; clean; rm -f older out file; return; }
     runs=0 lost=0
     for ends in signal=KILL error=EIO; do for call in openat read write fsync flock link rename statx; do
@@ -516,6 +516,7 @@ modes() {
             chmod 604 image; printf abcd > text; "$CORDKIT" commit image text > /dev/null; is "$name: the next one" "$(mode image)" 604
             clean; printf 'x\030' | "$CORDKIT" edit image text > /dev/null; is "$name: an edit" "$(mode image)" "$bits"
             chmod 604 image; printf 'x\030' | "$CORDKIT" edit --onto=image image text > /dev/null; is "$name: over it" "$(mode image)" 604
+            chmod 646 image; printf 'y\030' | "$CORDKIT" edit image text > /dev/null 2>&1; is "$name: another history over it" "$(mode image)" "$(printf %o $((0$bits & 0646)))"
             chmod 660 image; printf 'x\030' | "$CORDKIT" edit --onto=image image.too text > /dev/null; is "$name: from one image to another" "$(mode image.too)" "$(printf %o $((0$bits & 0660)))"
             clean; begin A --keep=image.keys image text; type_keys A abc; await has_keys image.keys abc; is "$name: keys" "$(mode image.keys)" 600
             type_keys A '\030'; close A; is "$name: saved by keys" "$(mode image)" "$bits"
@@ -528,12 +529,20 @@ modes() {
                 clean; printf abc > text; strace -qq -o /dev/null -e inject=write:signal=KILL:when=1 "$CORDKIT" commit image text > /dev/null 2>&1
                 is "$name: before the first byte" "$(mode image.new) $(wc -c < image.new)" "$bits 0"
                 strace -qq -o calls -e trace=openat "$CORDKIT" commit image text > /dev/null
-                made=$(sed -n 's/.*image.new.*O_CREAT.*, 0\([0-7]*\)).*/\1/p' calls); is "$name: from its beginning" "$made" "$bits"; rm -f calls
+                made=$(sed -n 's/.*image.new.*O_CREAT.*, 0\([0-7]*\)).*/\1/p' calls); is "$name: from its beginning" "$made" "$(printf %o $((0$bits & (0707 | 0$bits << 3))))"; rm -f calls
             fi
             rm -f text
         done
     done
     umask "$before"; clean
+    command -v setpriv > /dev/null && [ "$(id -u)" = 0 ] || { echo '    no other user can be tried here'; return; }
+    rm -rf theirs; mkdir theirs; printf abc > theirs/text; chown -R 65534:1 theirs; chmod 640 theirs/text; chmod 755 .
+    as() { setpriv --reuid=65534 --regid=65534 "$@"; }
+    who() { echo $(stat -c '%u:%g %a' theirs/image); }
+    as --clear-groups "$CORDKIT" commit theirs/image theirs/text > /dev/null; is 'a group that its user is not in' "$(who)" '65534:65534 600'
+    rm -f theirs/image; as --groups=1 "$CORDKIT" commit theirs/image theirs/text > /dev/null; is 'a group that its user is in' "$(who)" '65534:1 640'
+    chmod 664 theirs/image; printf abcd > theirs/text; as --clear-groups "$CORDKIT" commit theirs/image theirs/text > /dev/null; is 'and a replaced image' "$(who)" '65534:65534 644'
+    rm -rf theirs; chmod 700 .
 }
 
 # How many revisions the frames in a file tell, at most.

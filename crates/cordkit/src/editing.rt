@@ -46,15 +46,14 @@ pub(crate) fn finish(
     put
 }
 
-/// The image of the words. A new one is open to nobody to whom its file is not, or the image that it goes
-/// on from. What it takes the place of is kept, where the words do not say that it may go.
+/// The image of the words. Where it does not go on with what it takes the place of, it is open to nobody to whom its file is
+/// not, or the image that it goes on from. What it takes the place of is kept, where the words do not say that it may go.
 fn image_of<'a>(rt: &'a HostRuntime, words: Editing<'a>) -> Result<ImageFile<'a>, ToolFault> {
     let mut image = ImageFile::new(rt, words.image, words.faults)?;
-    if let Some(file) = words.file {
-        image.has_text_of(file);
-    }
-    if let Some(older) = words.onto {
-        image.has_text_of(older);
+    if words.onto != Some(words.image) {
+        for path in [words.file, words.onto].into_iter().flatten() {
+            image.begins_with(path);
+        }
     }
     if !words.replace {
         image.keep_old();

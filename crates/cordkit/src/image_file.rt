@@ -288,6 +288,11 @@ impl<'a> ImageFile<'a> {
         self.mode = self.mode.with_text_of(self.rt, path);
     }
 
+    /// It begins a history with the text of this file: it is open to nobody to whom this one is not, whatever it replaces.
+    pub fn begins_with(&mut self, path: &str) {
+        self.mode = self.mode.narrowed_by(self.rt, path);
+    }
+
     /// From now on it is not even begun where something else is there by then.
     pub fn give_way(&mut self) {
         self.gives_way = true;

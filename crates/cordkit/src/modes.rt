@@ -2,7 +2,7 @@
 
 use std::fs::{self, File, Permissions};
 use std::io;
-use std::os::unix::fs::{MetadataExt, PermissionsExt};
+use std::os::unix::fs::{MetadataExt, PermissionsExt, fchown};
 
 /// A file of keys is its owner's alone: nobody else sees what is typed before it is saved.
 pub const OF_KEYS: u32 = 0o600;
@@ -15,33 +15,102 @@ const SHARED: u32 = 0o777;
 
 const ALL: u32 = 0o7777;
 
+/// What a group may do, of a mode.
+const OF_GROUP: u32 = 0o070;
+
+/// Who may read and write a file: its mode, and its group.
+#[derive(Clone, Copy)]
+pub struct Shared {
+    mode: u32,
+    group: u32,
+}
+
+impl Shared {
+    fn of(found: &fs::Metadata) -> Shared {
+        Shared {
+            mode: found.mode() & ALL,
+            group: found.gid(),
+        }
+    }
+
+    /// Open to nobody to whom one of both is not. Where they are of two groups, a group gets no more than others do.
+    fn and(self, other: Shared) -> Shared {
+        let both = Shared {
+            mode: self.mode & (other.mode | !SHARED),
+            group: self.group,
+        };
+        if self.group == other.group {
+            both
+        } else {
+            both.of_any_group()
+        }
+    }
+
+    /// The same, where its group gets no more than others do.
+    fn of_any_group(self) -> Shared {
+        Shared {
+            mode: self.mode & (!OF_GROUP | (self.mode << 3)),
+            group: self.group,
+        }
+    }
+
+    /// What a file is made with, which has its group only later.
+    fn asked(self) -> u32 {
+        self.of_any_group().mode & SHARED
+    }
+
+    /// Gives a file the group and the mode. Where it may not have the group, that gets no more than others do.
+    fn give(self, file: &File) -> io::Result<()> {
+        let given = match fchown(file, None, Some(self.group)) {
+            Ok(()) => self,
+            Err(_) => self.of_any_group(),
+        };
+        file.set_permissions(Permissions::from_mode(given.mode))
+    }
+}
+
 /// The mode of an image.
 #[derive(Clone, Copy)]
 pub enum Mode {
     /// That of any new file.
     New,
     /// That of the file whose text a new image has.
-    OfText(u32),
+    OfText(Shared),
     /// That of the file whose place it takes.
-    OfReplaced(u32),
+    OfReplaced(Shared),
+}
+
+/// Who may read and write the file of this name, where there is one.
+fn shared_of(rt: &HostRuntime, path: &str) -> Option<Shared> {
+    match fs::metadata(rt, path) {
+        Ok(found) if found.is_file() => Some(Shared::of(&found)),
+        _ => None,
+    }
 }
 
 impl Mode {
     /// That of a file whose place is taken.
     pub fn of_replaced(found: &fs::Metadata) -> Mode {
-        Mode::OfReplaced(found.mode() & ALL)
+        Mode::OfReplaced(Shared::of(found))
     }
 
     /// A new image has the text of this file too: it is open to nobody to whom this one is not.
     pub fn with_text_of(self, rt: &HostRuntime, path: &str) -> Mode {
-        let found = match fs::metadata(rt, path) {
-            Ok(found) if found.is_file() => found.mode() & SHARED,
-            _ => return self,
-        };
-        match self {
-            Mode::New => Mode::OfText(found),
-            Mode::OfText(mode) => Mode::OfText(mode & found),
-            Mode::OfReplaced(_) => self,
+        match (self, shared_of(rt, path)) {
+            (Mode::New, Some(found)) => Mode::OfText(Shared {
+                mode: found.mode & SHARED,
+                ..found
+            }),
+            (Mode::OfText(shared), Some(found)) => Mode::OfText(shared.and(found)),
+            _ => self,
+        }
+    }
+
+    /// The same of an image that takes the place of another one, whose history it has not.
+    pub fn narrowed_by(self, rt: &HostRuntime, path: &str) -> Mode {
+        match (self, shared_of(rt, path)) {
+            (Mode::OfReplaced(shared), Some(found)) => Mode::OfReplaced(shared.and(found)),
+            _ => self.with_text_of(rt, path),
         }
     }
 
@@ -49,7 +118,7 @@ impl Mode {
     pub fn asked(self) -> u32 {
         match self {
             Mode::New => ASKED,
-            Mode::OfText(mode) | Mode::OfReplaced(mode) => mode & SHARED,
+            Mode::OfText(shared) | Mode::OfReplaced(shared) => shared.asked(),
         }
     }
 
@@ -58,11 +127,11 @@ impl Mode {
     pub fn give(self, file: &File) -> io::Result<()> {
         match self {
             Mode::New => Ok(()),
-            Mode::OfText(mode) => {
-                let _ = file.set_permissions(Permissions::from_mode(mode));
+            Mode::OfText(shared) => {
+                let _ = shared.give(file);
                 Ok(())
             }
-            Mode::OfReplaced(mode) => file.set_permissions(Permissions::from_mode(mode)),
+            Mode::OfReplaced(shared) => shared.give(file),
         }
     }
 }
