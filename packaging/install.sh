@@ -56,7 +56,9 @@ files="755 lib/cordkit/cordkit $program
 755 share/cordkit/keep_file examples/keep_file
 644 share/cordkit/keep_file.vim examples/keep_file.vim
 644 share/cordkit/keep_file.kak examples/keep_file.kak
-755 share/doc/cordkit/examples/from_git examples/from_git"
+755 share/doc/cordkit/examples/from_git examples/from_git
+644 share/doc/cordkit/README.md README.md
+$(printf '644 share/doc/cordkit/%s\n' docs/*.md | sed 's/.*cordkit\/\(.*\)/& \1/')"
 
 # Documents that become manual pages: their names there, and where they stand.
 pages="cordkit-start docs/START.md

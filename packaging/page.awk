@@ -134,5 +134,8 @@ END {
     if (code) end_code()
     print ".SH SEE ALSO"
     print ".BR cordkit (1),"
-    print ".BR cordedit (1)"
+    print ".BR cordedit (1)."
+    print "Other documents that are named here lie in"
+    print ".I share/doc/cordkit"
+    print "beside the program\\(aqs folder."
 }

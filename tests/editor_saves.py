@@ -172,21 +172,21 @@ def shown_until_read(name, why, env):
         terminal.end()
 
 
-def written_together(env):
-    """Where vim writes several files and one is not committed, that is told until Enter is pressed, and the others are written; so at the end of a session."""
-    terminal = Terminal(["sh", "-c", REFUSED["an image that is none"][0], "sh", *settings("vim")], env)
+def written_together(name, env):
+    """Where several files are written by one command and one is not committed, that is told until a key is pressed, and the others are written."""
+    terminal = Terminal(["sh", "-c", REFUSED["an image that is none"][0], "sh", *settings(name)], env)
     try:
-        require(terminal.shows("refused.txt"), "vim does not begin")
+        require(terminal.shows("refused.txt"), f"{name} does not begin")
         terminal.type("ggOtyped", "Escape")
-        terminal.type(":set hidden | edit other.txt", "Enter")
-        require(terminal.shows("other.txt"), "vim does not open another file")
+        terminal.type(":set hidden | edit other.txt" if name == "vim" else ":edit other.txt", "Enter")
+        require(terminal.shows("other.txt"), f"{name} does not open another file")
         terminal.type("ggOtoo", "Escape")
-        terminal.type(":wqa", "Enter")
-        require(terminal.shows("refused.txtisnotcommitted:"), "nothing is told of the file that is not committed")
-        terminal.type("", "Enter")
-        require(terminal.ends(), "vim does not end")
+        terminal.type(":wqa" if name == "vim" else ":wa", "Enter")
+        require(terminal.shows("refused.txtisnotcommitted:"), f"{name}: nothing is told of the file that is not committed")
+        terminal.type("", "Enter" if name == "vim" else "Space")
+        require(terminal.ends() if name == "vim" else terminal.shows("isnotcommitted", wanted=False), f"{name}: it is told on")
         with open("refused.txt") as file, open("other.txt") as other:
-            require((file.readline(), other.readline()) == ("typed\n", "too\n"), "a file is not written")
+            require((file.readline(), other.readline()) == ("typed\n", "too\n"), f"{name}: a file is not written")
     finally:
         terminal.end()
 
@@ -248,8 +248,7 @@ def main():
                 if shutil.which("tmux"):
                     for why in REFUSED:
                         shown_until_read(name, why, env)
-                    if name == "vim":
-                        written_together(env)
+                    written_together(name, env)
                 else:
                     print(f"LEFT OUT: saves of {name} that are not committed: there is no tmux here")
                 passed += 1

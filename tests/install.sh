@@ -104,11 +104,13 @@ wanted_files() {
 644 share/zsh/site-functions/_cordkit
 755 share/cordkit/keep_file
 755 share/doc/cordkit/examples/from_git
+644 share/doc/cordkit/README.md
 755 bin/cordedit
 755 bin/cordkit
 755 bin/cordkit-page
 755 bin/cordkit-verify
 755 lib/cordkit/cordkit'
+    (cd "$top" && printf '644 share/doc/cordkit/%s\n' docs/*.md)
     if [ -f "$library" ]; then
         echo '644 include/cord.h
 644 include/cordkit/cord.h

@@ -88,7 +88,8 @@ fn refuse_keys(rt: &HostRuntime, image: &str, faults: &Faults) -> Result<(), Too
         Ok(metadata) if metadata.len() > 0 => Err(ToolFault::KeysInUse),
         Ok(_) => Ok(()),
         Err(error) if error.kind() == ErrorKind::NotFound => Ok(()),
-        Err(error) => Err(faults.unread(keys.as_str(), error)),
+        // What cannot even be looked at lies in the image's folder.
+        Err(error) => Err(faults.unread(image, error)),
     }
 }
 
@@ -245,8 +246,7 @@ fn put_and_tell(
         _ => {}
     }
     if begun.other.is_some() || is_added {
-        // What is not kept is told by the next commit.
-        let _ = keep_committed(rt, image, words.file);
+        keep_committed(rt, image, words.file);
     }
     Ok(line)
 }

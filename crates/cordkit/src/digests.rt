@@ -156,31 +156,58 @@ pub fn tell(rt: &HostRuntime, sentence: &str) -> Result<(), ToolFault> {
     Ok(())
 }
 
-/// The line of a source of an image: the one that was kept, where the file has other bytes now, which is told.
-fn line_over(rt: &HostRuntime, image: &str, kept: &str, path: &str) -> Result<String, ToolFault> {
-    let line = line_of(rt, path)?;
-    if !is_changed(kept, &line) {
-        return Ok(line);
+/// Tells that what stands beside an image could not be written.
+pub fn tell_unwritten(rt: &HostRuntime, image: &str, ending: &str) {
+    if let Ok(sentence) = format!(in rt.alloc(); "{image}{ending} could not be written") {
+        // There is no other place to tell that there is no memory.
+        let _ = tell(rt, &sentence);
     }
+}
+
+/// The image beside which lines were kept, and whether it is told where a file has other bytes now.
+#[derive(Clone, Copy)]
+struct Beside<'a> {
+    image: &'a str,
+    tells: bool,
+}
+
+/// Tells that a source of an image has other bytes than it had.
+fn tell_source(rt: &HostRuntime, image: &str, path: &str) -> Result<(), ToolFault> {
     let sentence = format!(in rt.alloc();
         "{path} is not the file that {image} was made from: \
         its digest is not the one in {image}.sources. cordedit --copy keeps a copy of the file beside the image"
     )?;
-    tell(rt, &sentence)?;
+    tell(rt, &sentence)
+}
+
+/// The line of a source of an image: the one that was kept, where the file has other bytes now.
+fn line_over(
+    rt: &HostRuntime,
+    beside: Beside<'_>,
+    kept: &str,
+    path: &str,
+) -> Result<String, ToolFault> {
+    let line = line_of(rt, path)?;
+    if !is_changed(kept, &line) {
+        return Ok(line);
+    }
+    if beside.tells {
+        tell_source(rt, beside.image, path)?;
+    }
     Ok(String::from_str(rt.alloc(), kept)?)
 }
 
 /// The lines of the sources of an image, of which these were kept.
 fn lines_over(
     rt: &HostRuntime,
-    image: &str,
+    beside: Beside<'_>,
     kept: &str,
     paths: &[&str],
 ) -> Result<String, ToolFault> {
     let mut all = String::new(rt.alloc());
     let mut kept = kept.lines();
     for path in paths {
-        let line = line_over(rt, image, kept.next().unwrap_or(""), path)?;
+        let line = line_over(rt, beside, kept.next().unwrap_or(""), path)?;
         all.push_str(&line).map_err(|_| ToolFault::Memory)?;
         all.push('\n').map_err(|_| ToolFault::Memory)?;
     }
@@ -199,7 +226,7 @@ pub fn tell_changed(rt: &HostRuntime, image: &str, paths: &[&str]) -> Result<(),
     }
     let kept = kept_beside(rt, image)?;
     if !kept.is_empty() {
-        lines_over(rt, image, &kept, paths)?;
+        lines_over(rt, Beside { image, tells: true }, &kept, paths)?;
     }
     Ok(())
 }
@@ -243,15 +270,54 @@ impl SourceLines {
         older: Option<&str>,
         paths: &[&str],
     ) -> Result<SourceLines, ToolFault> {
-        if paths.is_empty() {
-            return Ok(SourceLines {
-                lines: String::new(rt.alloc()),
-            });
+        match older {
+            Some(image) => SourceLines::beside(rt, Beside { image, tells: true }, paths),
+            None => Ok(SourceLines {
+                lines: lines_over(
+                    rt,
+                    Beside {
+                        image: "",
+                        tells: false,
+                    },
+                    "",
+                    paths,
+                )?,
+            }),
         }
-        let lines = match older {
-            Some(image) => lines_over(rt, image, &kept_beside(rt, image)?, paths)?,
-            None => lines_over(rt, "", "", paths)?,
+    }
+
+    /// Those of a session that goes on from an image of which it was told where a file has other bytes.
+    ///
+    /// # Errors
+    ///
+    /// `Memory`.
+    pub fn over_told(
+        rt: &HostRuntime,
+        image: &str,
+        paths: &[&str],
+    ) -> Result<SourceLines, ToolFault> {
+        SourceLines::beside(
+            rt,
+            Beside {
+                image,
+                tells: false,
+            },
+            paths,
+        )
+    }
+
+    /// Those of a session that goes on from this image.
+    fn beside(
+        rt: &HostRuntime,
+        beside: Beside<'_>,
+        paths: &[&str],
+    ) -> Result<SourceLines, ToolFault> {
+        let kept = if paths.is_empty() {
+            String::new(rt.alloc())
+        } else {
+            kept_beside(rt, beside.image)?
         };
+        let lines = lines_over(rt, beside, &kept, paths)?;
         Ok(SourceLines { lines })
     }
 
@@ -283,9 +349,6 @@ impl SourceLines {
         if self.lines.is_empty() || self.write_beside(rt, image).is_ok() {
             return;
         }
-        if let Ok(sentence) = format!(in rt.alloc(); "{image}.sources could not be written") {
-            // There is no other place to tell that there is no memory.
-            let _ = tell(rt, &sentence);
-        }
+        tell_unwritten(rt, image, ".sources");
     }
 }

@@ -1,6 +1,6 @@
 //! Which file the last text of an image was committed from, as a file beside the image keeps it.
 
-use crate::digests::tell;
+use crate::digests::{tell, tell_unwritten};
 use crate::side_file::{Found, found_at, write_by};
 use cord_tools::ToolFault;
 use std::fs;
@@ -80,21 +80,29 @@ fn may_have_line(rt: &HostRuntime, name: &str) -> Result<bool, ToolFault> {
     })
 }
 
-/// Keeps beside an image that is in its place which file its last text was committed from. Something else that stands
-/// there stays. Where it cannot be kept, the next commit tells that the text came from elsewhere.
-///
-/// # Errors
-///
-/// `Memory`. `Write`, where it was not kept.
-pub fn keep_committed(rt: &HostRuntime, image: &str, file: &str) -> Result<(), ToolFault> {
+/// Writes beside an image which file its last text was committed from.
+fn write_beside(rt: &HostRuntime, image: &str, file: &str) -> Result<(), ToolFault> {
     let metadata = fs::metadata(rt, image).map_err(|_| ToolFault::Write)?;
+    if !metadata.is_file() {
+        return Ok(());
+    }
     let name = format!(in rt.alloc(); "{image}.committed")?;
     let part = format!(in rt.alloc(); "{name}.new")?;
-    if !metadata.is_file() || !may_have_line(rt, &name)? || !may_have_line(rt, &part)? {
+    if !may_have_line(rt, &name)? || !may_have_line(rt, &part)? {
         return Err(ToolFault::Write);
     }
     let line = line_of(rt, metadata.len(), file)?;
     // What an earlier run left of it is written anew.
     let _ = fs::remove_file(rt, &part);
     write_by(rt, &part, &name, metadata.permissions(), &line)
+}
+
+/// Keeps beside an image that is in its place which file its last text was committed from. Something else that stands
+/// there stays. Where it cannot be written, that is told, and the next commit tells that the text came from elsewhere.
+pub fn keep_committed(rt: &HostRuntime, image: &str, file: &str) {
+    match write_beside(rt, image, file) {
+        // There is no other place to tell that there is no memory.
+        Ok(()) | Err(ToolFault::Memory) => {}
+        Err(_) => tell_unwritten(rt, image, ".committed"),
+    }
 }

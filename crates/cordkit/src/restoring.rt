@@ -55,7 +55,7 @@ fn commit_first<'a, S: Sources>(
         faults: words.faults,
     };
     let begun = begin(rt, words)?;
-    let lines = SourceLines::over(rt, Some(words.image), words.sources)?;
+    let lines = SourceLines::over_told(rt, words.image, words.sources)?;
     let line = commit_begun(rt, words, begun, sources, &lines, meter)?;
     answer(rt, words, line)
 }
