@@ -865,6 +865,7 @@ an empty text is restored;restore restored 0 note_anew;;0;same 7\n;
 the file is empty;cmp note_anew nothing;;0;equal\n;
 a file gets a text over a source;restore $(echo open 0 > open_script && "$program" apply open_script abc > opened && echo opened) 0 note_anew abc;;0;committed 1\n;
 it has the bytes of the source;cut 0 9 note_anew;;0;abc;
+what a commit over a source takes out is shown over it;commit $("$program" apply open_script abc > opened_told && echo opened_told) ab abc;;0;committed 1\n;revision 0 of opened_told was not committed from ab: what it had and ab has not is taken out, and cordkit show opened_told 0 abc still gives it\n
 a revision that is not there to restore;restore restored 99 note;;1;;refused no revision\n
 an image to restore from that is not there;restore missing 0 note;;3;;read\n
 none is made;check missing;;3;;read\n
@@ -1095,7 +1096,7 @@ an image on a full device in words;edit --explain /dev/full;keys_saved;3;edit.tx
 frames on a full device in words;edit --explain unsaved;keys_saved;3;/dev/full;write\nwrite: standard output could not be written: its disk is full\n
 an image in a folder that is not there in words;edit --explain missing/image;keys_saved;3;edit.txt;write\nwrite: missing/image could not be written: its folder is not there\n
 a commit in a folder that is not there in words;commit --explain missing/image abc;;3;;write\nwrite: missing/image could not be written: its folder is not there\n
-an image below a file in words;commit --explain abc/image ab;;3;;read\nread: abc/image.keys is below what is no folder\n
+an image below a file in words;commit --explain abc/image ab;;3;;read\nread: abc/image is below what is no folder\n
 an image that is a folder in words;commit --explain folder abc;;3;;write\nwrite: folder could not be written: it is a folder\n
 keys in a folder that is not there in words;edit --explain --keep missing/keys kept;keys_saved;3;;write\nwrite: missing/keys could not be written: its folder is not there\n
 a session's file that is a folder in words;edit --explain --keep kept_keys --session folder kept;keys_saved;3;;read\nread: folder is a folder\n

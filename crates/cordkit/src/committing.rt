@@ -241,7 +241,7 @@ fn put_and_tell(
     match begun.other {
         Some(revision) if is_added && !words.brings_back(revision) => {
             // Where there is no memory for it, nothing is told.
-            let _ = tell_other(rt, words.image, words.file, revision);
+            let _ = tell_other(rt, words, revision);
         }
         _ => {}
     }

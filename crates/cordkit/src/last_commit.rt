@@ -1,8 +1,10 @@
 //! Which file the last text of an image was committed from, as a file beside the image keeps it.
 
+use crate::committing::Committing;
 use crate::digests::{tell, tell_unwritten};
 use crate::side_file::{Found, found_at, write_by};
 use cord_tools::ToolFault;
+use std::alloc::AllocError;
 use std::fs;
 use std::path::Path;
 
@@ -53,20 +55,65 @@ pub fn is_committed_from(
     })
 }
 
+/// Whether a shell takes a word as it stands.
+fn is_plain(word: &str) -> bool {
+    for c in word.chars() {
+        if !c.is_ascii_alphanumeric() && !matches!(c, '.' | '_' | '/' | '-') {
+            return false;
+        }
+    }
+    !word.is_empty()
+}
+
+/// Puts a word behind others, in quotes where a shell would take it for something else.
+fn push_word(line: &mut String, word: &str) -> Result<(), AllocError> {
+    line.push(' ')?;
+    if is_plain(word) {
+        return line.push_str(word);
+    }
+    line.push('\'')?;
+    for c in word.chars() {
+        match c {
+            '\'' => line.push_str("'\\''")?,
+            _ => line.push(c)?,
+        }
+    }
+    line.push('\'')
+}
+
+/// The command that shows a revision of an image over its sources.
+fn show_command(
+    rt: &HostRuntime,
+    words: Committing<'_>,
+    revision: u32,
+) -> Result<String, AllocError> {
+    let mut line = String::from_str(rt.alloc(), "cordkit show")?;
+    let mut has_sign = words.image.starts_with('-');
+    for source in words.sources {
+        has_sign = has_sign || source.starts_with('-');
+    }
+    if has_sign {
+        line.push_str(" --")?;
+    }
+    push_word(&mut line, words.image)?;
+    push_word(&mut line, format!(in rt.alloc(); "{revision}")?.as_str())?;
+    for source in words.sources {
+        push_word(&mut line, source)?;
+    }
+    Ok(line)
+}
+
 /// Tells on standard error that a text was taken out which was not committed from the file.
 ///
 /// # Errors
 ///
 /// `Memory`.
-pub fn tell_other(
-    rt: &HostRuntime,
-    image: &str,
-    file: &str,
-    revision: u32,
-) -> Result<(), ToolFault> {
+pub fn tell_other(rt: &HostRuntime, words: Committing<'_>, revision: u32) -> Result<(), ToolFault> {
+    let command = show_command(rt, words, revision)?;
+    let Committing { image, file, .. } = words;
     let sentence = format!(in rt.alloc();
         "revision {revision} of {image} was not committed from {file}: \
-        what it had and {file} has not is taken out, and cordkit show {image} {revision} still gives it"
+        what it had and {file} has not is taken out, and {command} still gives it"
     )?;
     tell(rt, &sentence)
 }
