@@ -4,6 +4,7 @@ pub mod EarlierTexts
 pub mod StepBack
 pub mod TakenParts
 pub mod Together
+pub mod SplicedTexts
 pub mod StepsTaken
 pub mod Standing
 pub mod NamedBytes

@@ -3,6 +3,7 @@ pub mod Origins
 pub mod EarlierTexts
 pub mod KeptEnds
 pub mod StepsBack
+pub mod SplicedTexts
 pub mod Stretches
 pub mod Arrivals
 pub mod OriginTexts

@@ -1,19 +1,21 @@
 //! One step back from a place of a text.
 
-// The lines `let _count = ..` are for the proof: the image's records
-// are true, and its texts a sound table, as these calls say.
+// The lines `let _count = ..` and `let _image = ..` are for the proof: the image's
+// records are true, and its texts a sound table, as these calls say.
 
-ghost use Rattle.std.specs.Prelude.{◌≡◌, ◌<◌, length, Some};
-ghost use Rattle.image_reader.specs.Accepted.{splices_before};
+ghost use Rattle.std.specs.Prelude.{◌≡◌, ◌+◌, ◌^◌, ◌<◌, ◌≤◌, length, Some};
+ghost use Rattle.rope_node.specs.declared.limits.TheConstants.{TEXT_LIMIT};
+ghost use Rattle.image_reader.specs.Accepted.{revision_at, splices_before};
 ghost use Rattle.command_parts.specs.Parts.{part_at, part_len, IsPart};
 ghost use Rattle.byte_origins.specs.EarlierTexts.{len_of_text, texts_parts, texts_table};
+ghost use Rattle.byte_origins.specs.SplicedTexts.{one_splice, spliced_of};
 ghost use Rattle.byte_origins.specs.StepsBack.{came_len, IsStepBack, run_of, step_back, taken_of};
 
 use crate::run::{Brought, Origin, OriginRun};
 use crate::texts::TextsBefore;
-use command_parts::{Part, PartIter, Splices, parts};
+use command_parts::{Edit, Part, PartIter, Splice, Splices, parts};
 use image_reader::Revisions;
-use rope_node::NodeSpace;
+use rope_node::{NodeSpace, rope_len};
 use session_checker::Checked;
 
 /// Where the bytes from a place on come from, as far as one part of the text goes.
@@ -87,6 +89,24 @@ pub(crate) fn taken_of(texts: &TextsBefore, place: u64, part: Part, off: u64) ->
     }
 }
 
+/// The parts of `edit`, the command of text `k`, over the texts before it.
+fn edit_parts<'p, 'i, 'a>(
+    image: &Checked,
+    revisions: &'p Revisions<'i, 'a>,
+    k: u32,
+    edit: &Edit,
+) -> PartIter<'p, Revisions<'i, 'a>>
+    requires same { revisions.now ≡ image.now }
+    requires there { k < length image.now.revisions }
+    requires edit { edit.now ≡ (revision_at image.now k).edit }
+    ensures { result ≡ texts_parts image.now k }
+{
+    let _count = image.revisions();
+    let _image = revisions.count();
+    let texts = TextsBefore::of(image, k);
+    parts(&texts, &texts, revisions, edit)
+}
+
 /// The parts of the command of text `k` over the texts before it, where the revisions before it have `first` splices.
 pub(crate) fn command_parts<'p, 'i, 'a>(
     image: &Checked,
@@ -99,10 +119,80 @@ pub(crate) fn command_parts<'p, 'i, 'a>(
     requires first { first ≡ splices_before image.now k }
     ensures { result ≡ texts_parts image.now k }
 {
+    let revision = revisions.revision(k, first);
+    edit_parts(image, revisions, k, &revision.edit)
+}
+
+/// What the bytes at `place` of text `k` are, by the parts of `edit`, its command. How many of them it went through is
+/// added to `passed`.
+fn taken_by_parts(
+    image: &Checked,
+    revisions: &Revisions,
+    k: u32,
+    edit: Edit,
+    place: u64,
+    passed: &mut u64,
+) -> CameFrom
+    requires same { revisions.now ≡ image.now }
+    requires there { k < length image.now.revisions }
+    requires edit { edit ≡ (revision_at image.now k).edit }
+    requires inside { place < len_of_text image.now k }
+    ensures { step_back image.now k place ≡ Some result }
+{
     let _count = image.revisions();
     let texts = TextsBefore::of(image, k);
-    let revision = revisions.revision(k, first);
-    parts(&texts, &texts, revisions, &revision.edit)
+    match held(edit_parts(image, revisions, k, &edit), place, passed) {
+        Some((part, off)) => taken_of(&texts, place, part, off),
+        None => unreachable!(),
+    }
+}
+
+/// The text into which a command puts one splice, and the splice.
+#[inline(always)]
+fn one_splice(edit: Edit) -> Option<(u32, Splice)>
+    ensures { result ≡ one_splice edit }
+{
+    #[rattlefmt::skip]
+    match edit {
+        Edit::Insert { r, p, a, n } => Some((r, Splice { p, m: 0, a, n })),
+        Edit::Delete { r, p, n } => Some((r, Splice { p, m: n, a: 0, n: 0 })),
+        Edit::Replace { r, p, m, a, n } => Some((r, Splice { p, m, a, n })),
+        _ => None,
+    }
+}
+
+/// How long text `r` is.
+#[inline(always)]
+fn len_of_text(image: &Checked, r: u32) -> u64
+    requires { r < length image.now.revisions }
+    ensures value { result ≡ len_of_text image.now r }
+    ensures limit { result < TEXT_LIMIT }
+{
+    let _count = image.revisions();
+    rope_len(image, image.image().root(r))
+}
+
+/// What the bytes at `place` of text `k` are, whose command puts a splice into text `r`. Only behind the splice does it
+/// matter how long that text is.
+#[inline(always)]
+fn spliced(image: &Checked, k: u32, place: u64, r: u32, splice: Splice) -> CameFrom
+    requires there { r < length image.now.revisions }
+    requires fits { splice.p + splice.m ≤ len_of_text image.now r }
+    requires pool { splice.a + splice.n < 2 ^ 64 }
+    requires inside { place + splice.m < len_of_text image.now r + splice.n }
+    ensures { result ≡ spliced_of (len_of_text image.now r) k place r splice }
+{
+    let Splice { p, m, a, n } = splice;
+    if place < p {
+        return CameFrom::FromText(r, place, p - place);
+    }
+    let off = place - p;
+    if off < n {
+        return run_of(k, place, Brought::Pool { a: a + off }, n - off);
+    }
+    let len = len_of_text(image, r);
+    let i = p + m + (off - n);
+    CameFrom::FromText(r, i, len - i)
 }
 
 /// What the bytes at `place` of text `k` are, where the revisions before it have `first` splices: one step back.
@@ -132,10 +222,13 @@ pub(crate) fn taken_counted(
     ensures exact { step_back image.now k place ≡ Some result }
 {
     let _count = image.revisions();
-    let texts = TextsBefore::of(image, k);
     let revisions = Revisions::over(image.image());
-    match held(command_parts(image, &revisions, k, first), place, passed) {
-        Some((part, off)) => taken_of(&texts, place, part, off),
-        None => unreachable!(),
+    let revision = revisions.revision(k, first);
+    match one_splice(revision.edit) {
+        Some((r, splice)) => {
+            *passed = passed.saturating_add(1);
+            spliced(image, k, place, r, splice)
+        }
+        None => taken_by_parts(image, &revisions, k, revision.edit, place, passed),
     }
 }

@@ -1,39 +1,9 @@
-use Rattle.std.proofs.Common.{◌≡◌, ℕ, List, ap, ◌∙◌, subst}
-use Rattle.command_parts.specs.declared.part.Part.{Part}
-use Rattle.command_parts.specs.Commands.{full_edit}
-use Rattle.command_parts.specs.Parts.{parts_of}
+use Rattle.std.proofs.Common.{ap, ◌∙◌}
 use Rattle.image_reader.specs.declared.revision.Revision.{Revision}
-use Rattle.image_reader.specs.Value.{ImageValue, IsImage}
+use Rattle.image_reader.specs.Value.{ImageValue}
 use Rattle.image_reader.specs.Accepted.{revision_at}
-use Rattle.session_checker.proofs.EarlierRevisions.{names_there}
-use Rattle.byte_origins.specs.EarlierTexts.{texts_table, texts_roots, texts_parts}
-use Rattle.byte_origins.proofs.EarlierTexts.{texts_ropes}
-use Rattle.byte_origins.proofs.StepBack.{texts_in_range}
 use Rattle.byte_origins.proofs.taking.command_parts.Goals as goal
 
--- the parts that the code makes are those over the texts before k
-parts_are : (v w u : ImageValue) (k n : ℕ) (r : Revision) (parts : List Part) → w ≡ v → n ≡ k → u ≡ v → r ≡ revision_at u k → parts ≡ parts_of (texts_table w n) (texts_roots w n) (full_edit u.splices r.edit) → parts ≡ texts_parts v k
-parts_are v w u k n r parts e f same at exact =
-    exact
-    ∙ ap (λ (x : ImageValue). parts_of (texts_table x n) (texts_roots x n) (full_edit u.splices r.edit)) e
-    ∙ ap (λ (x : ℕ). parts_of (texts_table v x) (texts_roots v x) (full_edit u.splices r.edit)) f
-    ∙ ap (λ (x : Revision). parts_of (texts_table v k) (texts_roots v k) (full_edit u.splices x.edit)) at
-    ∙ ap (λ (x : ImageValue). parts_of (texts_table v k) (texts_roots v k) (full_edit x.splices (revision_at x k).edit)) same
-
-pub parts-requires-clause-ropes : goal.parts-requires-clause-ropes
-parts-requires-clause-ropes c = rw (c.of-texts.ensures.image, c.of-texts.ensures.k) (texts_ropes c.args.image.now c.args.k)
-
-pub parts-requires-clause-named : goal.parts-requires-clause-named
-parts-requires-clause-named c =
-    let same = c.requires.same in
-    let image : IsImage c.args.image.now = subst IsImage same c.revision-revision.ensures.image in
-    rw (c.revision-revision.ensures.at, same) (names_there c.args.image.now image c.args.k c.requires.there)
-
-pub parts-requires-clause-in_range : goal.parts-requires-clause-in_range
-parts-requires-clause-in_range c =
-    let same = c.requires.same in
-    rw (c.of-texts.ensures.image, c.of-texts.ensures.k, c.revision-revision.ensures.at, same) (texts_in_range c.args.image.now c.revisions-count.ensures.true_records c.revisions-count.ensures.true_records.rules c.args.k c.requires.there)
-
-pub returns : goal.returns
-returns c =
-    parts_are c.args.image.now c.of-texts.result.image.now c.args.revisions.now c.args.k c.of-texts.result.k c.revision-revision.result c.parts.result c.of-texts.ensures.image c.of-texts.ensures.k c.requires.same c.revision-revision.ensures.at c.parts.ensures.exact
+pub edit_parts-requires-clause-edit : goal.edit_parts-requires-clause-edit
+edit_parts-requires-clause-edit c =
+    ap (λ (x : Revision). x.edit) (c.revision-revision.ensures.at ∙ ap (λ (v : ImageValue). revision_at v c.args.k) c.requires.same)

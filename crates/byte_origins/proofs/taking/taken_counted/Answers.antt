@@ -1,38 +1,54 @@
-use Rattle.std.proofs.Common.{◌≡◌, ℕ, List, Option, Some, None, sym, ap, ◌∙◌}
-use Rattle.command_parts.specs.declared.part.Part.{Part}
-use Rattle.command_parts.specs.Parts.{part_at}
-use Rattle.std.specs.Option.{option_map}
-use Rattle.byte_origins.specs.StepsBack.{taken_of}
-use Rattle.byte_origins.specs.EarlierTexts.{texts_parts}
-use Rattle.byte_origins.proofs.TakenParts.{held_place, held_there, taken_is}
+use Rattle.std.proofs.Common.{◌≡◌, ℕ, ◌<◌, length, Option, Some, sym, ap, ◌∙◌, arith}
+use Rattle.command_parts.specs.declared.edit.Splice.{Splice}
+use Rattle.image_reader.specs.declared.revision.Revision.{Revision}
+use Rattle.image_reader.specs.Value.{ImageValue}
+use Rattle.image_reader.specs.Accepted.{revision_at}
+use Rattle.session_checker.specs.Faithful.{HasTrueRecordsOf}
+use Rattle.byte_origins.specs.EarlierTexts.{len_of_text}
+use Rattle.byte_origins.specs.SplicedTexts.{one_splice}
+use Rattle.byte_origins.proofs.SplicedTexts.{PutsSplice, puts_splice}
+use Rattle.byte_origins.proofs.Together.{step_is}
 use Rattle.byte_origins.proofs.taking.taken_counted.Goals as goal
 
-held_in : (parts ps : List Part) (place : ℕ) (held found : Option (Part × ℕ)) → parts ≡ ps → held ≡ part_at parts place → held ≡ found → part_at ps place ≡ found
-held_in parts ps place held found e is h = ap (λ (x : List Part). part_at x place) (sym e) ∙ sym is ∙ h
+-- the splice that was found is that of the command of text k
+splice_is : (v u : ImageValue) (k place r : ℕ) (x : Revision) (s : Splice) (found : Option (ℕ × Splice)) → HasTrueRecordsOf v → k < length v.revisions → place < len_of_text v k
+    → u ≡ v → x ≡ revision_at u k → found ≡ one_splice x.edit → found ≡ Some (r, s) → PutsSplice v k place r s
+splice_is v u k place r x s found true there inside same at is e =
+    puts_splice v true true.rules k there place r s inside (ap (λ (w : ImageValue). one_splice (revision_at w k).edit) (sym same) ∙ ap (λ (y : Revision). one_splice y.edit) (sym at) ∙ sym is ∙ e)
 
-pub taken_of-requires-clause-part : goal.taken_of-requires-clause-part
-taken_of-requires-clause-part c =
-    let at = held_in c.command_parts.result (texts_parts c.args.image.now c.args.k) c.args.place c.held.result (Some (c.in-Some.part, c.in-Some.off)) c.command_parts.ensures c.held.ensures c.in-Some.is in
-    rw (c.of-texts.ensures.image, c.of-texts.ensures.k) (held_place c.args.image.now c.revisions-count.ensures.true_records c.revisions-count.ensures.true_records.rules c.args.k c.requires.there c.args.place c.in-Some.part c.in-Some.off at).is_part
+pub spliced-requires-clause-there : goal.spliced-requires-clause-there
+spliced-requires-clause-there c =
+    let s = splice_is c.args.image.now c.over-revisions.result c.args.k c.args.place c.in-Some.r c.revision-revision.result c.in-Some.splice c.one_splice.result c.revisions-count.ensures.true_records c.requires.there c.requires.inside (c.over-revisions.ensures ∙ c.image.ensures) c.revision-revision.ensures.at c.one_splice.ensures c.in-Some.is in
+    omega (arith, s.earlier, c.requires.there)
 
-pub taken_of-requires-clause-inside : goal.taken_of-requires-clause-inside
-taken_of-requires-clause-inside c =
-    let at = held_in c.command_parts.result (texts_parts c.args.image.now c.args.k) c.args.place c.held.result (Some (c.in-Some.part, c.in-Some.off)) c.command_parts.ensures c.held.ensures c.in-Some.is in
-    (held_place c.args.image.now c.revisions-count.ensures.true_records c.revisions-count.ensures.true_records.rules c.args.k c.requires.there c.args.place c.in-Some.part c.in-Some.off at).before_end
+pub spliced-requires-clause-fits : goal.spliced-requires-clause-fits
+spliced-requires-clause-fits c =
+    (splice_is c.args.image.now c.over-revisions.result c.args.k c.args.place c.in-Some.r c.revision-revision.result c.in-Some.splice c.one_splice.result c.revisions-count.ensures.true_records c.requires.there c.requires.inside (c.over-revisions.ensures ∙ c.image.ensures) c.revision-revision.ensures.at c.one_splice.ensures c.in-Some.is).fits
 
-pub unreachable-requires : goal.unreachable-requires
-unreachable-requires c =
-    let at = held_in c.command_parts.result (texts_parts c.args.image.now c.args.k) c.args.place c.held.result None c.command_parts.ensures c.held.ensures c.in-None.is in
-    held_there c.args.image.now c.revisions-count.ensures.true_records c.revisions-count.ensures.true_records.rules c.args.k c.requires.there c.args.place c.requires.inside at
+pub spliced-requires-clause-pool : goal.spliced-requires-clause-pool
+spliced-requires-clause-pool c =
+    (splice_is c.args.image.now c.over-revisions.result c.args.k c.args.place c.in-Some.r c.revision-revision.result c.in-Some.splice c.one_splice.result c.revisions-count.ensures.true_records c.requires.there c.requires.inside (c.over-revisions.ensures ∙ c.image.ensures) c.revision-revision.ensures.at c.one_splice.ensures c.in-Some.is).pool
 
-pub returns-clause-step : goal.returns-clause-step
-returns-clause-step c =
-    let at = held_in c.command_parts.result (texts_parts c.args.image.now c.args.k) c.args.place c.held.result (Some (c.in-Some.part, c.in-Some.off)) c.command_parts.ensures c.held.ensures c.in-Some.is in
-    let k = c.of-texts.ensures.k in
-    rw (c.taken_of.ensures, k) (taken_is c.args.image.now c.revisions-count.ensures.true_records c.revisions-count.ensures.true_records.rules c.args.k c.requires.there c.args.place c.in-Some.part c.in-Some.off at)
+pub spliced-requires-clause-inside : goal.spliced-requires-clause-inside
+spliced-requires-clause-inside c =
+    (splice_is c.args.image.now c.over-revisions.result c.args.k c.args.place c.in-Some.r c.revision-revision.result c.in-Some.splice c.one_splice.result c.revisions-count.ensures.true_records c.requires.there c.requires.inside (c.over-revisions.ensures ∙ c.image.ensures) c.revision-revision.ensures.at c.one_splice.ensures c.in-Some.is).inside
 
-pub returns-clause-exact : goal.returns-clause-exact
-returns-clause-exact c =
-    let at = held_in c.command_parts.result (texts_parts c.args.image.now c.args.k) c.args.place c.held.result (Some (c.in-Some.part, c.in-Some.off)) c.command_parts.ensures c.held.ensures c.in-Some.is in
-    let k = c.of-texts.ensures.k in
-    rw (c.taken_of.ensures, k) (ap (option_map (λ (x : Part × ℕ). taken_of c.args.k c.args.place x.0 x.1)) at)
+pub taken_by_parts-requires-clause-edit : goal.taken_by_parts-requires-clause-edit
+taken_by_parts-requires-clause-edit c =
+    ap (λ (x : Revision). x.edit) (c.revision-revision.ensures.at ∙ ap (λ (w : ImageValue). revision_at w c.args.k) (c.over-revisions.ensures ∙ c.image.ensures))
+
+pub returns-in-Some-clause-exact : goal.returns-in-Some-clause-exact
+returns-in-Some-clause-exact c =
+    (splice_is c.args.image.now c.over-revisions.result c.args.k c.args.place c.in-Some.r c.revision-revision.result c.in-Some.splice c.one_splice.result c.revisions-count.ensures.true_records c.requires.there c.requires.inside (c.over-revisions.ensures ∙ c.image.ensures) c.revision-revision.ensures.at c.one_splice.ensures c.in-Some.is).back
+    ∙ ap Some (sym c.spliced.ensures)
+
+pub returns-in-Some-clause-step : goal.returns-in-Some-clause-step
+returns-in-Some-clause-step c =
+    let t = c.revisions-count.ensures.true_records in
+    let s = splice_is c.args.image.now c.over-revisions.result c.args.k c.args.place c.in-Some.r c.revision-revision.result c.in-Some.splice c.one_splice.result t c.requires.there c.requires.inside (c.over-revisions.ensures ∙ c.image.ensures) c.revision-revision.ensures.at c.one_splice.ensures c.in-Some.is in
+    step_is c.args.image.now t t.rules c.args.k c.args.place c.spliced.result c.requires.there (s.back ∙ ap Some (sym c.spliced.ensures))
+
+pub returns-in-None-clause-step : goal.returns-in-None-clause-step
+returns-in-None-clause-step c =
+    let t = c.revisions-count.ensures.true_records in
+    step_is c.args.image.now t t.rules c.args.k c.args.place c.taken_by_parts.result c.requires.there c.taken_by_parts.ensures
