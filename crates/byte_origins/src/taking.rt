@@ -157,7 +157,8 @@ fn one_splice(edit: Edit) -> Option<(u32, Splice)>
         Edit::Insert { r, p, a, n } => Some((r, Splice { p, m: 0, a, n })),
         Edit::Delete { r, p, n } => Some((r, Splice { p, m: n, a: 0, n: 0 })),
         Edit::Replace { r, p, m, a, n } => Some((r, Splice { p, m, a, n })),
-        _ => None,
+        Edit::New | Edit::Open { .. } | Edit::Paste { .. } | Edit::Join { .. } | Edit::Cut { .. } => None,
+        Edit::Fill { .. } | Edit::Back { .. } | Edit::Balance { .. } | Edit::Many { .. } => None,
     }
 }
 
