@@ -58,6 +58,9 @@ files="755 lib/cordkit/cordkit $program
 644 share/cordkit/keep_file.kak examples/keep_file.kak
 755 share/doc/cordkit/examples/from_git examples/from_git
 644 share/doc/cordkit/README.md README.md
+644 share/doc/cordkit/CONTRIBUTING.md CONTRIBUTING.md
+644 share/doc/cordkit/CHANGELOG.md CHANGELOG.md
+644 share/doc/cordkit/LICENSE LICENSE
 $(printf '644 share/doc/cordkit/%s\n' docs/*.md | sed 's/.*cordkit\/\(.*\)/& \1/')"
 
 # Documents that become manual pages: their names there, and where they stand.

@@ -164,7 +164,8 @@ def told_of(room, older, answer):
         return b""
     last, image, file = len(texts) - 1, room.image, os.path.join(room.folder, "file")
     told = f"revision {last} of {image} was not committed from {file}: what it had and {file} has not is taken out, "
-    return f"{told}and cordkit show {image} {last} still gives it\n".encode()
+    sources = "".join(f" {path}" for path in room.files)
+    return f"{told}and cordkit show {image} {last}{sources} still gives it\n".encode()
 
 
 def committed_fault(room, state, older, answer, is_own=True, is_known=True):

@@ -104,6 +104,9 @@ wanted_files() {
 644 share/zsh/site-functions/_cordkit
 755 share/cordkit/keep_file
 755 share/doc/cordkit/examples/from_git
+644 share/doc/cordkit/CHANGELOG.md
+644 share/doc/cordkit/CONTRIBUTING.md
+644 share/doc/cordkit/LICENSE
 644 share/doc/cordkit/README.md
 755 bin/cordedit
 755 bin/cordkit

@@ -525,6 +525,7 @@ modes() {
             printf '' | "$CORDEDIT" --continue image image_next text > /dev/null; is "$name: the next text" "$(mode image_next.0)" "$bits"; rm -f image_next*
             clean; sh "$here/examples/keep_file" text > /dev/null; is "$name: times" "$(mode text.cord text.times)" "$bits $bits"
             chmod 604 text.times; echo more >> text; sh "$here/examples/keep_file" text > /dev/null; is "$name: the next ones" "$(mode text.times)" 604; rm -f text.*
+            clean; chmod 4444 text; sh "$here/examples/keep_file" text > /dev/null; is "$name: times of a file that is only read" "$? $(mode text.times) $(wc -l < text.times)" '0 644 1'; rm -f text.*; chmod "$bits" text
             if command -v strace > /dev/null; then
                 clean; printf abc > text; strace -qq -o /dev/null -e inject=write:signal=KILL:when=1 "$CORDKIT" commit image text > /dev/null 2>&1
                 is "$name: before the first byte" "$(mode image.new) $(wc -c < image.new)" "$bits 0"

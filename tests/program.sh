@@ -381,9 +381,9 @@ changed() {
     printf '%s\\n' "$1 is not the file that $2 was made from: its digest is not the one in $2.sources. cordedit --copy keeps a copy of the file beside the image"
 }
 
-# What a commit tells of a text that was not committed from its file.
+# What a commit tells of a text that was not committed from its file: of which revision, image, file and sources.
 other() {
-    printf '%s\\n' "revision $1 of $2 was not committed from $3: what it had and $3 has not is taken out, and cordkit show $2 $1 still gives it"
+    printf '%s\\n' "revision $1 of $2 was not committed from $3: what it had and $3 has not is taken out, and cordkit show $2 $1${4:+ $4} still gives it"
 }
 
 # Digests of sources beside an image: who writes them, and who tells that a source has other bytes.
@@ -432,16 +432,16 @@ try_sources() {
     try 'half a terabyte in their place' 'check made abd' '' 0 "$one" ''
     : > made.sources
     try 'nothing in their place' 'check made abd' '' 0 "$one" ''
-    try 'a commit over a file' 'commit made ab abc' '' 0 'committed 1\n' "$(other 0 made ab)"
+    try 'a commit over a file' 'commit made ab abc' '' 0 'committed 1\n' "$(other 0 made ab abc)"
     is 'its digest is written' "$(cat made.sources)" "$(line_over abc)"
-    try 'a commit over a file of other bytes' 'commit made abcde abd' '' 0 'committed 2\n' "$(changed abd made)$(other 1 made abcde)"
+    try 'a commit over a file of other bytes' 'commit made abcde abd' '' 0 'committed 2\n' "$(changed abd made)$(other 1 made abcde abd)"
     is 'and stays' "$(cat made.sources) $(ls made*)" "$(line_over abc) $(printf 'made\nmade.committed\nmade.sources')"
     rm made.sources
     try 'the same text' 'commit made abcde abc' '' 0 'same 2\n' ''
     is 'writes nothing' "$(ls made*)" "$(printf 'made\nmade.committed')"
     printf 'open 0\nopen 1\n' > script_of_two_files
     "$program" apply script_of_two_files ab abc > made
-    try 'a commit over two files' 'commit made abcde ab abc' '' 0 'committed 2\n' "$(other 1 made abcde)"
+    try 'a commit over two files' 'commit made abcde ab abc' '' 0 'committed 2\n' "$(other 1 made abcde 'ab abc')"
     is 'a line of each' "$(cat made.sources)" "$(line_over ab && line_over abc)"
     try 'the second has other bytes' 'check made ab abd' '' 0 "$("$program" check made ab abc)\n" "$(changed abd made)"
     rm made made.committed made.sources
@@ -471,6 +471,7 @@ try_sources() {
 # The file of the last commit beside an image: who writes it, and when a commit tells that the last text came from elsewhere.
 try_last_commits() {
     rm -f made made.*
+    unwritten="$(pwd -P)/made.committed could not be written\\n"
     cp abc note && try 'a first commit tells nothing' 'commit made note' '' 0 'committed 1\n' ''
     is 'its file stands beside the image' "$(cat made.committed)" "$(stat -c %s made) note"
     cp abcde note && try 'nor does the next one' 'commit made note' '' 0 'committed 2\n' ''
@@ -480,14 +481,20 @@ try_last_commits() {
     try 'and shown still' 'show made 3' '' 0 typedabcde ''
     try 'a file of another name' 'commit made abc' '' 0 'committed 5\n' "$(other 4 made abc)"
     ln -s abc note_too && try 'a link to a file of that name' 'commit made note_too' '' 0 'same 5\n' ''
-    try 'a text that was the last one is restored' 'restore made last note' '' 0 'committed 6\n' "$(other 5 made note)"
+    try 'a text that was the last one is restored' 'restore made last note' '' 0 'committed 6\n' ''
     cp ab note && try 'and gone on from' 'commit made note' '' 0 'committed 7\n' ''
     printf 'a list\n' > made.committed && cp abc note
-    try 'something else stands there' 'commit made note' '' 0 'committed 8\n' "$(other 7 made note)"
+    try 'something else stands there' 'commit made note' '' 0 'committed 8\n' "$(other 7 made note)$unwritten"
     is 'and stays' "$(cat made.committed) $(ls made*)" "$(printf 'a list made\nmade.committed')"
     rm made.committed && cp ab note && try 'nothing stands there' 'commit made note' '' 0 'committed 9\n' "$(other 8 made note)"
-    mkdir made.committed.new && cp abc note && try 'it cannot be written' 'commit made note' '' 0 'committed 10\n' ''
+    mkdir made.committed.new && cp abc note && try 'it cannot be written' 'commit made note' '' 0 'committed 10\n' "$unwritten"
     rmdir made.committed.new && cp ab note && try 'so that is told' 'commit made note' '' 0 'committed 11\n' "$(other 10 made note)"
+    head -c 9 /dev/zero > made.committed && cp abc note && try 'a line that a loss of power emptied' 'commit made note' '' 0 'committed 12\n' "$(other 11 made note)"
+    rm note && try 'a file that is gone gets the last text' 'restore made last note' '' 0 '' ''
+    cp ab note && try 'and is gone on from' 'commit made note' '' 0 'committed 13\n' ''
+    rm -f notes && try 'another file gets the last text' 'restore made last notes' '' 0 '' ''
+    cp abc notes && try 'and is gone on from too' 'commit made notes' '' 0 'committed 14\n' ''
+    mv notes note && rm made.committed && try 'the same text as before' 'commit made note' '' 0 'same 14\n' ''
     cp made.committed before && try 'an image that is replaced' 'edit made' key_save 0 "$("$program" edit unsaved < /dev/null)" \
         "the image that was there is kept as $(pwd -P)/made.saved-1\n"
     is 'has it by its other name' "$(ls made*)" "$(printf 'made\nmade.saved-1\nmade.saved-1.committed')"

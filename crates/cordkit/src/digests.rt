@@ -1,11 +1,12 @@
 //! Digests of the files that a session was made from. They stand beside its image, which has the lengths of these files alone.
 
+use crate::modes::Mode;
 use crate::side_file::{Found, found_at, write_by};
 use cord_tools::ToolFault;
 use key_journal::{END_SIZE, WHOLE_LIMIT};
 use sha2::{Digest, Sha256};
 use std::fmt;
-use std::fs::{self, File, Permissions};
+use std::fs::{self, File};
 use std::io::{self, ErrorKind, Read, Seek, SeekFrom, Write};
 
 /// The most bytes of a file of digests. Its 255 lines have fewer.
@@ -232,12 +233,7 @@ pub fn tell_changed(rt: &HostRuntime, image: &str, paths: &[&str]) -> Result<(),
 }
 
 /// Gives a file of digests its text, where it has another one or is not there. What is no such file stays.
-fn replace(
-    rt: &HostRuntime,
-    name: &str,
-    permissions: Permissions,
-    text: &str,
-) -> Result<(), ToolFault> {
+fn replace(rt: &HostRuntime, name: &str, mode: Mode, text: &str) -> Result<(), ToolFault> {
     match lines_at(rt, name)? {
         Found::Text(there) if there.as_str() == text => return Ok(()),
         Found::Text(_) | Found::Nothing => {}
@@ -249,7 +245,7 @@ fn replace(
         Found::Nothing => {}
         Found::Other => return Err(ToolFault::Write),
     }
-    write_by(rt, &part, name, permissions, text)
+    write_by(rt, &part, name, mode, text)
 }
 
 /// The lines of the sources of a session that is about to be saved.
@@ -337,7 +333,7 @@ impl SourceLines {
         match fs::metadata(rt, image) {
             Ok(metadata) if metadata.is_file() => {
                 let name = format!(in rt.alloc(); "{image}.sources")?;
-                replace(rt, &name, metadata.permissions(), self.lines.as_str())
+                replace(rt, &name, Mode::of_replaced(&metadata), self.lines.as_str())
             }
             _ => Ok(()),
         }

@@ -2,6 +2,7 @@
 
 use crate::committing::Committing;
 use crate::digests::{tell, tell_unwritten};
+use crate::modes::Mode;
 use crate::side_file::{Found, found_at, write_by};
 use cord_tools::ToolFault;
 use std::alloc::AllocError;
@@ -30,6 +31,8 @@ fn line_of(rt: &HostRuntime, size: u64, file: &str) -> Result<String, ToolFault>
 
 /// Whether a text is such a line, or what is left of one where a run was killed, or the power failed.
 fn is_begun(text: &str) -> bool {
+    // Of a file that was not yet written the system may keep the length alone.
+    let text = text.trim_end_matches('\0');
     match text.split_once(' ') {
         Some((size, _)) => size.parse::<u64>().is_ok(),
         None => text.is_empty() || text.parse::<u64>().is_ok(),
@@ -141,7 +144,7 @@ fn write_beside(rt: &HostRuntime, image: &str, file: &str) -> Result<(), ToolFau
     let line = line_of(rt, metadata.len(), file)?;
     // What an earlier run left of it is written anew.
     let _ = fs::remove_file(rt, &part);
-    write_by(rt, &part, &name, metadata.permissions(), &line)
+    write_by(rt, &part, &name, Mode::of_replaced(&metadata), &line)
 }
 
 /// Keeps beside an image that is in its place which file its last text was committed from. Something else that stands
@@ -151,5 +154,12 @@ pub fn keep_committed(rt: &HostRuntime, image: &str, file: &str) {
         // There is no other place to tell that there is no memory.
         Ok(()) | Err(ToolFault::Memory) => {}
         Err(_) => tell_unwritten(rt, image, ".committed"),
+    }
+}
+
+/// The same of a file that was not there, and got the last text of an image.
+pub fn keep_restored(rt: &HostRuntime, image: &str, file: &str) {
+    if let Ok(whole) = fs::canonicalize(rt, image) {
+        keep_committed(rt, whole.as_str(), file);
     }
 }

@@ -5,6 +5,7 @@ ghost use Rattle.std.specs.Prelude.{◌≡◌, ◌*◌, ◌<◌, length};
 use crate::committing::{Committing, answer, begin, commit_begun};
 use crate::digests::SourceLines;
 use crate::faults::Faults;
+use crate::last_commit::keep_restored;
 use crate::meter::Meter;
 use crate::opening::{OpenedImage, opened_with_sources};
 use crate::text_file::{Part, TextFile};
@@ -83,7 +84,11 @@ fn write_and_put<'a, L: Ledger>(
     if file.is_there() {
         commit_first(rt, words, &mut image.sources, meter)?;
     }
-    file.replace(rt, part)
+    file.replace(rt, part)?;
+    if !file.is_there() && words.revision == WantedRevision::Last {
+        keep_restored(rt, words.image, words.file);
+    }
+    Ok(())
 }
 
 /// Gives a file the text of a revision of an image, once what it holds is committed. Each refusal leaves it as it was.

@@ -1,8 +1,10 @@
 //! Small files that stand beside an image and tell something of it.
 
 use crate::file_state::state_at;
+use crate::modes::Mode;
+use crate::text_file::made;
 use cord_tools::ToolFault;
-use std::fs::{self, File, Permissions};
+use std::fs;
 use std::io::{self, ErrorKind, Write};
 
 /// What stands under a name.
@@ -32,10 +34,9 @@ pub fn found_at(rt: &HostRuntime, name: &str, most: u64) -> Result<Found, ToolFa
     }
 }
 
-/// Writes a new file with these permissions.
-fn write_new(rt: &HostRuntime, name: &str, permissions: Permissions, text: &str) -> io::Result<()> {
-    let mut file = File::create_new(rt, name)?;
-    file.set_permissions(permissions)?;
+/// Writes a new file of this mode.
+fn write_new(rt: &HostRuntime, name: &str, mode: Mode, text: &str) -> io::Result<()> {
+    let mut file = made(rt, name, mode)?;
     file.write_all(text.as_bytes())
 }
 
@@ -48,10 +49,10 @@ pub fn write_by(
     rt: &HostRuntime,
     part: &str,
     name: &str,
-    permissions: Permissions,
+    mode: Mode,
     text: &str,
 ) -> Result<(), ToolFault> {
-    let written = match write_new(rt, part, permissions, text) {
+    let written = match write_new(rt, part, mode, text) {
         Ok(()) => fs::rename(rt, part, name),
         Err(error) => Err(error),
     };

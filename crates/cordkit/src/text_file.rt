@@ -33,7 +33,7 @@ pub struct Part<'a> {
 }
 
 /// A new file, to which the mode was given.
-fn made(rt: &HostRuntime, name: &str, mode: Mode) -> io::Result<File> {
+pub fn made(rt: &HostRuntime, name: &str, mode: Mode) -> io::Result<File> {
     let mut options = File::options();
     options.read(true).write(true).create_new(true);
     options.mode(mode.asked());
