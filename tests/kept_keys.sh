@@ -522,6 +522,7 @@ modes() {
             type_keys A '\030'; close A; is "$name: saved by keys" "$(mode image)" "$bits"
             clean; printf 'x\030' | "$CORDEDIT" --copy --text image.text image text > /dev/null; is "$name: by the script" "$(mode image image.0 image.text)" "$bits $bits $bits"
             chmod 604 image.text; printf 'x\030' | "$CORDEDIT" --text image.text image text > /dev/null; is "$name: a text that was there" "$(mode image.text)" 604
+            rm image.text; chmod 666 image; printf 'x\030' | "$CORDEDIT" --text image.text image text > /dev/null; is "$name: a text over an image that is more open" "$(mode image.text)" "$bits"
             printf '' | "$CORDEDIT" --continue image image_next text > /dev/null; is "$name: the next text" "$(mode image_next.0)" "$bits"; rm -f image_next*
             clean; sh "$here/examples/keep_file" text > /dev/null; is "$name: times" "$(mode text.cord text.times)" "$bits $bits"
             chmod 604 text.times; echo more >> text; sh "$here/examples/keep_file" text > /dev/null; is "$name: the next ones" "$(mode text.times)" 604; rm -f text.*
