@@ -1,5 +1,5 @@
 # Each .txt file that is saved is committed by the keep_file beside this file (docs/COMMIT.md). Why one was not is shown in a box until a key is pressed,
-# and so is what the commit told. `write-all` runs a hook for no client: then each shows it.
+# and so is what the commit told. Where no client gave the command, each shows it.
 declare-option -hidden str keep_file %sh{ echo "${kak_source%/*}/keep_file" }
 declare-option -hidden str kept_said
 declare-option -hidden str-list kept_waiting

@@ -521,6 +521,7 @@ modes() {
             clean; begin A --keep=image.keys image text; type_keys A abc; await has_keys image.keys abc; is "$name: keys" "$(mode image.keys)" 600
             type_keys A '\030'; close A; is "$name: saved by keys" "$(mode image)" "$bits"
             clean; printf 'x\030' | "$CORDEDIT" --copy --text image.text image text > /dev/null; is "$name: by the script" "$(mode image image.0 image.text)" "$bits $bits $bits"
+            mkdir image.folder; printf 'x\030' | "$CORDEDIT" --text image.folder image text > /dev/null 2> A.said; is "$name: a text for a folder" "$? $(cat A.said) $(ls image.folder)" '3 cordedit: image.folder could not be written '; rmdir image.folder
             chmod 604 image.text; printf 'x\030' | "$CORDEDIT" --text image.text image text > /dev/null; is "$name: a text that was there" "$(mode image.text)" 604
             rm image.text; chmod 666 image; printf 'x\030' | "$CORDEDIT" --text image.text image text > /dev/null; is "$name: a text over an image that is more open" "$(mode image.text)" "$bits"
             printf '' | "$CORDEDIT" --continue image image_next text > /dev/null; is "$name: the next text" "$(mode image_next.0)" "$bits"; rm -f image_next*
@@ -542,6 +543,8 @@ modes() {
     as() { setpriv --reuid=65534 --regid=65534 "$@"; }
     who() { echo $(stat -c '%u:%g %a' theirs/image); }
     as --clear-groups "$CORDKIT" commit theirs/image theirs/text > /dev/null; is 'a group that its user is not in' "$(who)" '65534:65534 600'
+    chmod 4755 theirs/text; "$CORDKIT" commit theirs/own theirs/text > /dev/null; printf abcd > theirs/text; chmod 4755 theirs/text; "$CORDKIT" restore theirs/own 0 theirs/text > /dev/null
+    is 'no file runs as who made it' "$(stat -c %a theirs/own theirs/text | tr '\n' ' ')" '755 755 '; printf abc > theirs/text; chown 65534:1 theirs/text; chmod 640 theirs/text
     rm -f theirs/image; as --groups=1 "$CORDKIT" commit theirs/image theirs/text > /dev/null; is 'a group that its user is in' "$(who)" '65534:1 640'
     chmod 664 theirs/image; printf abcd > theirs/text; as --clear-groups "$CORDKIT" commit theirs/image theirs/text > /dev/null; is 'and a replaced image' "$(who)" '65534:65534 644'
     rm -rf theirs; chmod 700 .

@@ -10,10 +10,8 @@ pub const OF_KEYS: u32 = 0o600;
 /// What a new file asks for. The system takes from it what its owner gives to no new file.
 const ASKED: u32 = 0o666;
 
-/// The bits that say who may read, write and run a file, and all that are a mode.
+/// The bits that say who may read, write and run a file. No other bit of a file is given to one that is made.
 const SHARED: u32 = 0o777;
-
-const ALL: u32 = 0o7777;
 
 /// What a group may do, of a mode.
 const OF_GROUP: u32 = 0o070;
@@ -28,7 +26,7 @@ pub struct Shared {
 impl Shared {
     fn of(found: &fs::Metadata) -> Shared {
         Shared {
-            mode: found.mode() & ALL,
+            mode: found.mode() & SHARED,
             group: found.gid(),
         }
     }
@@ -36,7 +34,7 @@ impl Shared {
     /// Open to nobody to whom one of both is not. Where they are of two groups, a group gets no more than others do.
     fn and(self, other: Shared) -> Shared {
         let both = Shared {
-            mode: self.mode & (other.mode | !SHARED),
+            mode: self.mode & other.mode,
             group: self.group,
         };
         if self.group == other.group {
@@ -56,7 +54,7 @@ impl Shared {
 
     /// What a file is made with, which has its group only later.
     fn asked(self) -> u32 {
-        self.of_any_group().mode & SHARED
+        self.of_any_group().mode
     }
 
     /// Gives a file the group and the mode. Where it may not have the group, that gets no more than others do.
@@ -97,10 +95,7 @@ impl Mode {
     /// A new image has the text of this file too: it is open to nobody to whom this one is not.
     pub fn with_text_of(self, rt: &HostRuntime, path: &str) -> Mode {
         match (self, shared_of(rt, path)) {
-            (Mode::New, Some(found)) => Mode::OfText(Shared {
-                mode: found.mode & SHARED,
-                ..found
-            }),
+            (Mode::New, Some(found)) => Mode::OfText(found),
             (Mode::OfText(shared), Some(found)) => Mode::OfText(shared.and(found)),
             _ => self,
         }
