@@ -4,7 +4,7 @@ use Rattle.std.specs.Prelude.{◌^◌}
 use Rattle.std.specs.Option.{option_map}
 use Rattle.std.proofs.lemmas.Bool.{cases_Bool, ltb-true, ltb-false, lt-ltb, le-ltb, cond-true, cond-false}
 use Rattle.std.proofs.lemmas.List.Sums.{sum_by-cons}
-use Rattle.std.proofs.lemmas.Option.{none-some, some_pair_parts}
+use Rattle.std.proofs.lemmas.Option.{none-some, same_Some, some_pair_parts}
 use Rattle.rope_node.specs.declared.node.NodeId.{NodeId}
 use Rattle.rope_node.specs.Denotes.{rope_len}
 use Rattle.command_parts.specs.declared.edit.Edit.{Edit}
@@ -12,13 +12,14 @@ use Rattle.command_parts.specs.declared.edit.Splice.{Splice}
 use Rattle.command_parts.specs.declared.part.Part.{Part}
 use Rattle.command_parts.specs.Commands.{FullEdit, full_edit}
 use Rattle.command_parts.specs.Parts.{part_at, part_len, parts_len, nonempty, parts_of, root_at, IsInRange}
+use Rattle.image_reader.specs.declared.revision.Revision.{Revision}
 use Rattle.image_reader.specs.Value.{ImageValue}
 use Rattle.image_reader.specs.Accepted.{revision_at, KeepsRules}
 use Rattle.session_checker.specs.Faithful.{HasTrueRecordsOf, EachRevision}
 use Rattle.session_checker.proofs.ResultLengths.{nonempty_len}
 use Rattle.byte_origins.specs.declared.taking.CameFrom.TheVariants.{FromText}
 use Rattle.byte_origins.specs.EarlierTexts.{len_of_text, texts_table, texts_roots, texts_parts}
-use Rattle.byte_origins.specs.SplicedTexts.{one_splice, spliced_of}
+use Rattle.byte_origins.specs.SplicedTexts.{one_splice, place_beside, spliced_of}
 use Rattle.byte_origins.specs.StepsBack.{step_back, taken_of}
 use Rattle.byte_origins.proofs.EarlierTexts.{roots_count, root_is, root_some, root_long}
 use Rattle.byte_origins.proofs.StepBack.{texts_in_range, parts_long}
@@ -86,6 +87,30 @@ pub record PutsSplice (v : ImageValue) (k place r : ℕ) (s : Splice) : Type 0 w
   pub inside : place + s.m < len_of_text v r + s.n
   pub back : step_back v k place ≡ Some (spliced_of (len_of_text v r) k place r s)
 
+-- bytes that stand beside a splice stand side by side in the text that it was put into
+pub stands_beside : (k place len r whole i : ℕ) (s : Splice) → place + len + s.m ≤ whole + s.n → s.p + s.m ≤ whole → place_beside s place len ≡ Some i
+    → (n : ℕ) × (spliced_of whole k place r s ≡ FromText r i n) × (len ≤ n)
+stands_beside k place len r whole i s room fits at =
+    elim (cases_Bool (ltb place s.p)) [
+      | inl before ↦
+          elim (cases_Bool (ltb (s.p - place) len)) [
+            | inl cut ↦ absurd (none-some i (sym (cond-true _ _ _ before ∙ cond-true _ _ _ cut) ∙ at))
+            | inr whole ↦
+                let same : place ≡ i = same_Some place i (sym (cond-true _ _ _ before ∙ cond-false _ _ _ whole) ∙ at) in
+                (s.p - place, cond-true _ _ _ before ∙ ap (λ (j : ℕ). FromText r j (s.p - place)) same, ltb-false (s.p - place) len whole)
+          ]
+      | inr behind ↦
+          elim (cases_Bool (ltb (place - s.p) s.n)) [
+            | inl put ↦ absurd (none-some i (sym (cond-false _ _ _ behind ∙ cond-true _ _ _ put) ∙ at))
+            | inr past ↦
+                let le : s.p ≤ place = ltb-false place s.p behind in
+                let more : s.n ≤ place - s.p = ltb-false (place - s.p) s.n past in
+                let j = s.p + s.m + ((place - s.p) - s.n) in
+                let same : j ≡ i = same_Some j i (sym (cond-false _ _ _ behind ∙ cond-false _ _ _ past) ∙ at) in
+                (whole - j, cond-false _ _ _ behind ∙ cond-false _ _ _ past ∙ ap (λ (x : ℕ). FromText r x (whole - j)) same, omega (arith, le, more, room))
+          ]
+    ]
+
 module _ (v : ImageValue) (is : HasTrueRecordsOf v) (rules : EachRevision v (KeepsRules v)) (k : ℕ) (there : k < length v.revisions) where
   -- where these are the parts of the command
   puts : (place r : ℕ) (s : Splice) → r < length (texts_roots v k) → s.p + s.m ≤ rope_len (texts_table v k) (root_at (texts_roots v k) r) → s.a + s.n ≤ length v.pool → place < len_of_text v k
@@ -144,3 +169,9 @@ module _ (v : ImageValue) (is : HasTrueRecordsOf v) (rules : EachRevision v (Kee
           let range : IsInRange (texts_table v k) (texts_roots v k) (FullEdit.Replace q p m a n) = range_of (Edit.Replace q p m a n) e in
           moved place q r u s same.0 same.1 (puts place q u range.0 range.1 range.3 inside (parts_are (Edit.Replace q p m a n) e))
       by_edit _ e one = absurd (none-some {A = ℕ × Splice} (r, s) one)
+
+-- the splice that was found is that of the command of text k
+pub splice_is : (v u : ImageValue) (k place r : ℕ) (x : Revision) (s : Splice) (found : Option (ℕ × Splice)) → HasTrueRecordsOf v → k < length v.revisions → place < len_of_text v k
+    → u ≡ v → x ≡ revision_at u k → found ≡ one_splice x.edit → found ≡ Some (r, s) → PutsSplice v k place r s
+splice_is v u k place r x s found true there inside same at is e =
+    puts_splice v true true.rules k there place r s inside (ap (λ (w : ImageValue). one_splice (revision_at w k).edit) (sym same) ∙ ap (λ (y : Revision). one_splice y.edit) (sym at) ∙ sym is ∙ e)

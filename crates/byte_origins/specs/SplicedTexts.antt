@@ -25,3 +25,10 @@ spliced_of len k place r s =
     if nat_lt place s.p then FromText r place (s.p - place)
     else if nat_lt (place - s.p) s.n then run_of k place (Pool (s.a + (place - s.p))) (s.n - (place - s.p))
     else from_place r len (s.p + s.m + ((place - s.p) - s.n))
+
+-- Where len bytes beside a splice stand in the text that it was put into, where they all stand in front of it or all
+-- behind it.
+abbrev pub place_beside : Splice → ℕ → ℕ → Option ℕ
+place_beside s place len =
+    if nat_lt place s.p then (if nat_lt (s.p - place) len then None else Some place)
+    else (if nat_lt (place - s.p) s.n then None else Some (s.p + s.m + ((place - s.p) - s.n)))

@@ -9,7 +9,8 @@ use Rattle.byte_origins.specs.declared.stretch.Stretch.{Stretch}
 use Rattle.byte_origins.specs.Behind.{origin_behind}
 use Rattle.byte_origins.specs.EarlierTexts.{len_of_text}
 use Rattle.byte_origins.specs.Origins.{origins_at, run_origins}
-use Rattle.byte_origins.specs.StepsBack.{CameTogether}
+use Rattle.byte_origins.specs.declared.taking.CameFrom.TheVariants.{FromText}
+use Rattle.byte_origins.specs.StepsBack.{CameTogether, IsFromText, step_back}
 
 -- some bytes of a text, and how many splices the revisions before it have
 pub record IsStretch (v : ImageValue) (x : Stretch) : Type 0 where
@@ -26,6 +27,18 @@ stretch_origins v x = take x.len (drop x.place (origins_at v x.revision))
 abbrev pub left_origins : ImageValue → List Stretch → List Origin
 left_origins v [] = []
 left_origins v (x ∷ xs) = left_origins v xs ++ stretch_origins v x
+
+-- All bytes of a stretch stand side by side in an earlier text too, n of them there at least: as the other stretch.
+pub record MovesWithin (v : ImageValue) (x y : Stretch) (n : ℕ) : Type 0 where
+  pub step : IsFromText v x.revision x.place y.revision y.place n
+  pub exact : step_back v x.revision x.place ≡ Some (FromText y.revision y.place n)
+  pub whole : x.len ≤ n
+  pub len : y.len ≡ x.len
+  pub first : y.first ≡ splices_before v y.revision
+
+-- so they do of so many
+abbrev pub IsMoved : ImageValue → Stretch → Stretch → Type 0
+IsMoved v x y = (n : ℕ) × MovesWithin v x y n
 
 -- what lies behind the first n bytes of a stretch
 abbrev pub stretch_behind : Stretch → ℕ → Stretch

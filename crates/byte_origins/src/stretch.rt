@@ -8,12 +8,13 @@ ghost use Rattle.image_reader.specs.Accepted.{splices_before};
 ghost use Rattle.byte_origins.specs.Origins.{origins_at, run_origins};
 ghost use Rattle.byte_origins.specs.OriginTexts.{NameTexts};
 ghost use Rattle.byte_origins.specs.StepsBack.{IsStepBack};
-ghost use Rattle.byte_origins.specs.Stretches.{IsRestOf, IsStretch, left_origins, put_back, splice_starts, stretch_behind};
+ghost use Rattle.byte_origins.specs.Stretches.{IsMoved, IsRestOf, IsStretch, left_origins, put_back, splice_starts, stretch_behind};
 
 use crate::ropes::Ropes;
 use crate::run::OriginRun;
 use crate::starts::{first_splice, lowered, start_of};
-use crate::taking::{CameFrom, taken_counted};
+use crate::taking::{CameFrom, one_splice, place_beside, taken_counted};
+use image_reader::Revisions;
 use rope_node::rope_len;
 use session_checker::Checked;
 use std::alloc::AllocError;
@@ -60,6 +61,29 @@ impl Stretch {
             len: self.len - n,
             ..self
         }
+    }
+
+    /// The same bytes in the text into which their command puts one splice, where it puts it in front of them all or behind
+    /// them all. For this no length of a text is looked at.
+    pub fn moved(self, image: &Checked) -> Option<Stretch>
+        requires { IsStretch image.now self }
+        ensures { IfSome result (IsMoved image.now self) }
+    {
+        let _count = image.revisions();
+        let revisions = Revisions::over(image.image());
+        let revision = revisions.revision(self.revision, self.first);
+        let Some((r, splice)) = one_splice(revision.edit) else {
+            return None;
+        };
+        let Some(place) = place_beside(splice, self.place, self.len) else {
+            return None;
+        };
+        Some(Stretch {
+            revision: r,
+            place,
+            len: self.len,
+            first: lowered(image, self.revision, self.first, r),
+        })
     }
 
     /// At most `n` bytes of the earlier text `j` from `place` on, in place of its own.

@@ -8,7 +8,7 @@ ghost use Rattle.rope_node.specs.declared.limits.TheConstants.{TEXT_LIMIT};
 ghost use Rattle.image_reader.specs.Accepted.{revision_at, splices_before};
 ghost use Rattle.command_parts.specs.Parts.{part_at, part_len, IsPart};
 ghost use Rattle.byte_origins.specs.EarlierTexts.{len_of_text, texts_parts, texts_table};
-ghost use Rattle.byte_origins.specs.SplicedTexts.{one_splice, spliced_of};
+ghost use Rattle.byte_origins.specs.SplicedTexts.{one_splice, place_beside, spliced_of};
 ghost use Rattle.byte_origins.specs.StepsBack.{came_len, IsStepBack, run_of, step_back, taken_of};
 
 use crate::run::{Brought, Origin, OriginRun};
@@ -149,7 +149,7 @@ fn taken_by_parts(
 
 /// The text into which a command puts one splice, and the splice.
 #[inline(always)]
-fn one_splice(edit: Edit) -> Option<(u32, Splice)>
+pub(crate) fn one_splice(edit: Edit) -> Option<(u32, Splice)>
     ensures { result ≡ one_splice edit }
 {
     #[rattlefmt::skip]
@@ -171,6 +171,27 @@ fn len_of_text(image: &Checked, r: u32) -> u64
 {
     let _count = image.revisions();
     rope_len(image, image.image().root(r))
+}
+
+/// Where `len` bytes beside a splice stand in the text that it was put into, where they all stand in front of it or all
+/// behind it.
+#[inline(always)]
+pub(crate) fn place_beside(splice: Splice, place: u64, len: u64) -> Option<u64>
+    requires fits { splice.p + splice.m < 2 ^ 64 }
+    requires inside { place + splice.m < 2 ^ 64 + splice.n }
+    ensures { result ≡ place_beside splice place len }
+{
+    let Splice { p, m, n, .. } = splice;
+    if place < p {
+        if p - place < len { None } else { Some(place) }
+    } else {
+        let off = place - p;
+        if off < n {
+            None
+        } else {
+            Some(p + m + (off - n))
+        }
+    }
 }
 
 /// What the bytes at `place` of text `k` are, whose command puts a splice into text `r`. Only behind the splice does it

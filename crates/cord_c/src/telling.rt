@@ -32,14 +32,20 @@ fn first_run(
     let mut top = x;
     let mut at = left;
     'back: loop {
-        let came = taken(image, top.revision, top.first, top.place);
-        at = put_behind(room, from, at, top, came.len());
-        match came {
-            CameFrom::Run(run) => {
-                let len = top.len.min(run.len);
-                return (OriginRun { len, ..run }, at);
+        // Most steps are over one splice that is put in front of all bytes or behind them all.
+        match top.moved(image) {
+            Some(moved) => top = moved,
+            None => {
+                let came = taken(image, top.revision, top.first, top.place);
+                at = put_behind(room, from, at, top, came.len());
+                match came {
+                    CameFrom::Run(run) => {
+                        let len = top.len.min(run.len);
+                        return (OriginRun { len, ..run }, at);
+                    }
+                    CameFrom::FromText(j, place, n) => top = top.earlier(image, j, place, n),
+                }
             }
-            CameFrom::FromText(j, place, n) => top = top.earlier(image, j, place, n),
         }
     }
 }

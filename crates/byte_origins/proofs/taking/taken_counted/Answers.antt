@@ -6,15 +6,9 @@ use Rattle.image_reader.specs.Accepted.{revision_at}
 use Rattle.session_checker.specs.Faithful.{HasTrueRecordsOf}
 use Rattle.byte_origins.specs.EarlierTexts.{len_of_text}
 use Rattle.byte_origins.specs.SplicedTexts.{one_splice}
-use Rattle.byte_origins.proofs.SplicedTexts.{PutsSplice, puts_splice}
+use Rattle.byte_origins.proofs.SplicedTexts.{splice_is}
 use Rattle.byte_origins.proofs.Together.{step_is}
 use Rattle.byte_origins.proofs.taking.taken_counted.Goals as goal
-
--- the splice that was found is that of the command of text k
-splice_is : (v u : ImageValue) (k place r : ℕ) (x : Revision) (s : Splice) (found : Option (ℕ × Splice)) → HasTrueRecordsOf v → k < length v.revisions → place < len_of_text v k
-    → u ≡ v → x ≡ revision_at u k → found ≡ one_splice x.edit → found ≡ Some (r, s) → PutsSplice v k place r s
-splice_is v u k place r x s found true there inside same at is e =
-    puts_splice v true true.rules k there place r s inside (ap (λ (w : ImageValue). one_splice (revision_at w k).edit) (sym same) ∙ ap (λ (y : Revision). one_splice y.edit) (sym at) ∙ sym is ∙ e)
 
 pub spliced-requires-clause-there : goal.spliced-requires-clause-there
 spliced-requires-clause-there c =

@@ -1,9 +1,9 @@
-use Rattle.std.proofs.Common.{ℕ, min, refl, ap, ◌∙◌, subst}
+use Rattle.std.proofs.Common.{◌≡◌, ◌≤◌, ℕ, length, min, refl, ap, ◌∙◌, subst, arith}
 use Rattle.image_reader.specs.Accepted.{splices_before}
 use Rattle.byte_origins.specs.declared.stretch.Stretch.{Stretch}
 use Rattle.byte_origins.specs.StepsBack.{came_len}
 use Rattle.cord_c.specs.OriginRooms.{PutsInFront, behind_of}
-use Rattle.cord_c.proofs.WaitingStretches.{going_ends, going_more}
+use Rattle.cord_c.proofs.WaitingStretches.{going_ends, going_more, put_nothing}
 use Rattle.cord_c.proofs.telling.first_run.Goals as goal
 
 pub returns-in-Run : goal.returns-in-Run
@@ -20,3 +20,16 @@ back-preserved c =
     subst (λ (m : ℕ). PutsInFront (behind_of c.back.top m) c.back.room c.args.from c.back.at c.put_behind-at.new.room c.put_behind-at.result) (c.len.ensures ∙ ap came_len c.in-FromText.is) c.put_behind-at.ensures in
     rw (c.earlier-top.ensures)
     (going_more v c.args.x c.args.room.now c.back.room c.put_behind-at.new.room c.args.from c.args.left c.put_behind-at.result c.back.at n c.back.top c.back.invariant puts next c.in-FromText.ensures.step c.in-FromText.ensures.exact refl refl)
+
+pub back-preserved-in-Some : goal.back-preserved-in-Some
+back-preserved-in-Some c =
+    let n = c.in-Some.ensures.0 in
+    let moves = c.in-Some.ensures.1 in
+    let len = moves.len in
+    let whole = moves.whole in
+    let order = c.back.invariant.order in
+    let inside = c.back.invariant.inside in
+    let same = c.back.invariant.len in
+    let least : c.in-Some.moved.len ≡ min c.back.top.len n = omega (arith, len, whole) in
+    going_more c.args.image.now c.args.x c.args.room.now c.back.room c.back.room c.args.from c.args.left c.back.at c.back.at n c.back.top c.back.invariant
+    (put_nothing c.back.room c.args.from c.back.at n c.back.top order (omega (arith, inside, same)) whole) c.in-Some.moved moves.step moves.exact least moves.first

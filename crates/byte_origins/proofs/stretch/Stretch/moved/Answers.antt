@@ -1,0 +1,45 @@
+use Rattle.std.proofs.Common.{◌≡◌, ◌+◌, ◌-◌, ◌<◌, ◌≤◌, length, Some, refl, sym, ap, ◌∙◌, arith}
+use Rattle.byte_origins.specs.declared.taking.CameFrom.TheVariants.{FromText}
+use Rattle.byte_origins.specs.EarlierTexts.{len_of_text}
+use Rattle.byte_origins.proofs.EarlierTexts.{text_short}
+use Rattle.byte_origins.proofs.SplicedTexts.{splice_is, stands_beside}
+use Rattle.byte_origins.proofs.Together.{step_is}
+use Rattle.byte_origins.proofs.stretch.Stretch.moved.Goals as goal
+
+pub place_beside-requires-clause-fits : goal.place_beside-requires-clause-fits
+place_beside-requires-clause-fits c =
+    let there = c.requires.there in
+    let s = splice_is c.args.image.now c.over-revisions.result c.args.self.revision c.args.self.place c.in-Some.r c.revision-revision.result c.in-Some.splice c.one_splice.result c.revisions-count.ensures.true_records c.requires.there (omega (arith, c.requires.some, c.requires.inside)) (c.over-revisions.ensures ∙ c.image.ensures) c.revision-revision.ensures.at c.one_splice.ensures c.in-Some.is in
+    let short = text_short c.args.image.now c.args.self.revision (omega (arith, there)) c.revisions-count.ensures.true_records c.in-Some.r s.earlier in
+    let fits = s.fits in
+    omega (arith, fits, short)
+
+pub place_beside-requires-clause-inside : goal.place_beside-requires-clause-inside
+place_beside-requires-clause-inside c =
+    let there = c.requires.there in
+    let s = splice_is c.args.image.now c.over-revisions.result c.args.self.revision c.args.self.place c.in-Some.r c.revision-revision.result c.in-Some.splice c.one_splice.result c.revisions-count.ensures.true_records c.requires.there (omega (arith, c.requires.some, c.requires.inside)) (c.over-revisions.ensures ∙ c.image.ensures) c.revision-revision.ensures.at c.one_splice.ensures c.in-Some.is in
+    let short = text_short c.args.image.now c.args.self.revision (omega (arith, there)) c.revisions-count.ensures.true_records c.in-Some.r s.earlier in
+    let inside = s.inside in
+    omega (arith, inside, short)
+
+pub returns : goal.returns
+returns c =
+    let v = c.args.image.now in
+    let k = c.args.self.revision in
+    let t = c.revisions-count.ensures.true_records in
+    let some = c.requires.some in
+    let first = splice_is c.args.image.now c.over-revisions.result c.args.self.revision c.args.self.place c.in-Some.r c.revision-revision.result c.in-Some.splice c.one_splice.result c.revisions-count.ensures.true_records c.requires.there (omega (arith, c.requires.some, c.requires.inside)) (c.over-revisions.ensures ∙ c.image.ensures) c.revision-revision.ensures.at c.one_splice.ensures c.in-Some.is in
+    let last = splice_is c.args.image.now c.over-revisions.result c.args.self.revision (c.args.self.place + c.args.self.len - 1) c.in-Some.r c.revision-revision.result c.in-Some.splice c.one_splice.result c.revisions-count.ensures.true_records c.requires.there (omega (arith, c.requires.some, c.requires.inside)) (c.over-revisions.ensures ∙ c.image.ensures) c.revision-revision.ensures.at c.one_splice.ensures c.in-Some.is in
+    let room = last.inside in
+    let whole = len_of_text v c.in-Some.r in
+    let beside = stands_beside k c.args.self.place c.args.self.len c.in-Some.r whole c.in-Some-place_beside.place c.in-Some.splice (omega (arith, room, some)) first.fits (sym c.place_beside.ensures ∙ c.in-Some-place_beside.is) in
+    let back = first.back ∙ ap Some beside.1 in (
+      beside.0,
+      record {
+        step = step_is v t t.rules k c.args.self.place (FromText c.in-Some.r c.in-Some-place_beside.place beside.0) c.requires.there back;
+        exact = back;
+        whole = beside.2;
+        len = refl;
+        first = c.lowered.ensures;
+      },
+    )
