@@ -538,9 +538,11 @@ modes() {
         done
     done
     umask "$before"; clean
-    command -v setpriv > /dev/null && [ "$(id -u)" = 0 ] || { echo '    no other user can be tried here'; return; }
-    rm -rf theirs; mkdir theirs; printf abc > theirs/text; chown -R 65534:1 theirs; chmod 640 theirs/text; chmod 755 .
     as() { setpriv --reuid=65534 --regid=65534 "$@"; }
+    # Another user has to be one that this one may become, and that reaches the program and this folder.
+    chmod 755 .
+    [ "$(id -u)" = 0 ] && as --clear-groups "$CORDKIT" --version > /dev/null 2>&1 && as --clear-groups test -x "$PWD" || { chmod 700 .; echo '    no other user can be tried here'; return; }
+    rm -rf theirs; mkdir theirs; printf abc > theirs/text; chown -R 65534:1 theirs; chmod 640 theirs/text
     who() { echo $(stat -c '%u:%g %a' theirs/image); }
     as --clear-groups "$CORDKIT" commit theirs/image theirs/text > /dev/null; is 'a group that its user is not in' "$(who)" '65534:65534 600'
     chmod 4755 theirs/text; "$CORDKIT" commit theirs/own theirs/text > /dev/null; printf abcd > theirs/text; chmod 4755 theirs/text; "$CORDKIT" restore theirs/own 0 theirs/text > /dev/null
