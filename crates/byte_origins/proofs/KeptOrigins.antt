@@ -17,6 +17,7 @@ use Rattle.byte_origins.specs.declared.run.Origin.{Origin}
 use Rattle.byte_origins.specs.KeptEnds.{KeepsOrigins}
 use Rattle.byte_origins.specs.Origins.{Traced, Earlier, Outside, settled, origins_at, traced_givens}
 use Rattle.byte_origins.proofs.Lengths.{all_origins, origins_step, result_there, traced_result}
+use Rattle.byte_origins.proofs.TakenParts.{settled-earlier}
 
 -- ---- what a command gives
 
@@ -64,10 +65,6 @@ settled_append k p (Outside b ∷ xs) ys =
     let same : (p + 1) + length xs ≡ p + suc (length xs) = omega arith in
     ap (λ (l : List Origin). record { revision = k; place = p; brought = b } ∷ l) (settled_append k (p + 1) xs ys ∙ ap (λ (j : ℕ). settled k (p + 1) xs ++ settled k j ys) same)
 
-settled_earlier : (k p : ℕ) (os : List Origin) → settled k p (map Earlier os) ≡ os
-settled_earlier k p [] = refl
-settled_earlier k p (o ∷ os) = ap (λ (l : List Origin). o ∷ l) (settled_earlier k (p + 1) os)
-
 kept_of : (k front end : ℕ) (os : List Origin) (pool : List Traced) (splices : List Splice) (xs : List Traced) → Follow end front splices → end ≤ length os → replaced_each pool (map Earlier os) splices ≡ xs
     → KeepsOrigins front end os (settled k 0 xs)
 kept_of k front end os pool splices xs follow inside e =
@@ -85,8 +82,8 @@ kept_of k front end os pool splices xs follow inside e =
       between = settled k n rest.0;
       whole = ap (settled k 0) is
           ∙ settled_append k 0 (map Earlier first) (rest.0 ++ map Earlier (drop end os))
-          ∙ ap (λ (l : List Origin). l ++ settled k n (rest.0 ++ map Earlier (drop end os))) (settled_earlier k 0 first)
-          ∙ ap (λ (l : List Origin). first ++ l) (settled_append k n rest.0 (map Earlier (drop end os)) ∙ ap (λ (l : List Origin). settled k n rest.0 ++ l) (settled_earlier k (n + length rest.0) (drop end os)));
+          ∙ ap (λ (l : List Origin). l ++ settled k n (rest.0 ++ map Earlier (drop end os))) (settled-earlier k 0 first)
+          ∙ ap (λ (l : List Origin). first ++ l) (settled_append k n rest.0 (map Earlier (drop end os)) ∙ ap (λ (l : List Origin). settled k n rest.0 ++ l) (settled-earlier k (n + length rest.0) (drop end os)));
     }
 
 -- ---- a revision's origins
@@ -124,4 +121,4 @@ module _ (v : ImageValue) (true_records : HasTrueRecordsOf v) (rules : EachRevis
       let there = result_there v true_records rules k lt in
       let g = traced_givens (length v.pool) v.sources in
       let same : there.0 ≡ map Earlier (origins_at v r) = text_before k r there.0 (ap (result_of g (texts_before k)) (sym is) ∙ there.1) in
-      origins_given k there.0 lt there.1 ∙ ap (settled (length (take k (all_origins v))) 0) same ∙ settled_earlier (length (take k (all_origins v))) 0 (origins_at v r)
+      origins_given k there.0 lt there.1 ∙ ap (settled (length (take k (all_origins v))) 0) same ∙ settled-earlier (length (take k (all_origins v))) 0 (origins_at v r)

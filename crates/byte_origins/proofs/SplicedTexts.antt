@@ -4,7 +4,7 @@ use Rattle.std.specs.Prelude.{◌^◌}
 use Rattle.std.specs.Option.{option_map}
 use Rattle.std.proofs.lemmas.Bool.{cases_Bool, ltb-true, ltb-false, lt-ltb, le-ltb, cond-true, cond-false}
 use Rattle.std.proofs.lemmas.List.Sums.{sum_by-cons}
-use Rattle.std.proofs.lemmas.Option.{none-some, same_Some, some_pair_parts}
+use Rattle.std.proofs.lemmas.Option.{none-some, some_pair_parts}
 use Rattle.rope_node.specs.declared.node.NodeId.{NodeId}
 use Rattle.rope_node.specs.Denotes.{rope_len}
 use Rattle.command_parts.specs.declared.edit.Edit.{Edit}
@@ -19,7 +19,7 @@ use Rattle.session_checker.specs.Faithful.{HasTrueRecordsOf, EachRevision}
 use Rattle.session_checker.proofs.ResultLengths.{nonempty_len}
 use Rattle.byte_origins.specs.declared.taking.CameFrom.TheVariants.{FromText}
 use Rattle.byte_origins.specs.EarlierTexts.{len_of_text, texts_table, texts_roots, texts_parts}
-use Rattle.byte_origins.specs.SplicedTexts.{one_splice, place_beside, spliced_of}
+use Rattle.byte_origins.specs.SplicedTexts.{IsPlaceBeside, one_splice, spliced_of}
 use Rattle.byte_origins.specs.StepsBack.{step_back, taken_of}
 use Rattle.byte_origins.proofs.EarlierTexts.{roots_count, root_is, root_some, root_long}
 use Rattle.byte_origins.proofs.StepBack.{texts_in_range, parts_long}
@@ -88,28 +88,17 @@ pub record PutsSplice (v : ImageValue) (k place r : ℕ) (s : Splice) : Type 0 w
   pub back : step_back v k place ≡ Some (spliced_of (len_of_text v r) k place r s)
 
 -- bytes that stand beside a splice stand side by side in the text that it was put into
-pub stands_beside : (k place len r whole i : ℕ) (s : Splice) → place + len + s.m ≤ whole + s.n → s.p + s.m ≤ whole → place_beside s place len ≡ Some i
+pub stands_beside : (k place len r whole i : ℕ) (s : Splice) → 1 ≤ len → place + len + s.m ≤ whole + s.n → s.p + s.m ≤ whole → IsPlaceBeside s place len i
     → (n : ℕ) × (spliced_of whole k place r s ≡ FromText r i n) × (len ≤ n)
-stands_beside k place len r whole i s room fits at =
-    elim (cases_Bool (ltb place s.p)) [
-      | inl before ↦
-          elim (cases_Bool (ltb (s.p - place) len)) [
-            | inl cut ↦ absurd (none-some i (sym (cond-true _ _ _ before ∙ cond-true _ _ _ cut) ∙ at))
-            | inr whole ↦
-                let same : place ≡ i = same_Some place i (sym (cond-true _ _ _ before ∙ cond-false _ _ _ whole) ∙ at) in
-                (s.p - place, cond-true _ _ _ before ∙ ap (λ (j : ℕ). FromText r j (s.p - place)) same, ltb-false (s.p - place) len whole)
-          ]
-      | inr behind ↦
-          elim (cases_Bool (ltb (place - s.p) s.n)) [
-            | inl put ↦ absurd (none-some i (sym (cond-false _ _ _ behind ∙ cond-true _ _ _ put) ∙ at))
-            | inr past ↦
-                let le : s.p ≤ place = ltb-false place s.p behind in
-                let more : s.n ≤ place - s.p = ltb-false (place - s.p) s.n past in
-                let j = s.p + s.m + ((place - s.p) - s.n) in
-                let same : j ≡ i = same_Some j i (sym (cond-false _ _ _ behind ∙ cond-false _ _ _ past) ∙ at) in
-                (whole - j, cond-false _ _ _ behind ∙ cond-false _ _ _ past ∙ ap (λ (x : ℕ). FromText r x (whole - j)) same, omega (arith, le, more, room))
-          ]
-    ]
+stands_beside k place len r whole i s some room fits (inl (front, at)) =
+    let before = lt-ltb place s.p (omega (arith, some, front)) in
+    (s.p - place, cond-true _ _ _ before ∙ ap (λ (j : ℕ). FromText r j (s.p - place)) (sym at), omega (arith, front))
+stands_beside k place len r whole i s some room fits (inr (back, at)) =
+    let behind = le-ltb place s.p (omega (arith, back)) in
+    let past = le-ltb (place - s.p) s.n (omega (arith, back)) in
+    let j = s.p + s.m + ((place - s.p) - s.n) in
+    let same : j ≡ i = omega (arith, back, at) in
+    (whole - j, cond-false _ _ _ behind ∙ cond-false _ _ _ past ∙ ap (λ (x : ℕ). FromText r x (whole - j)) same, omega (arith, back, room))
 
 module _ (v : ImageValue) (is : HasTrueRecordsOf v) (rules : EachRevision v (KeepsRules v)) (k : ℕ) (there : k < length v.revisions) where
   -- where these are the parts of the command

@@ -37,7 +37,7 @@ take-settled k p (suc n) (Earlier o ∷ xs) = ap (λ (os : List Origin). o ∷ o
 take-settled k p (suc n) (Outside b ∷ xs) = ap (λ (os : List Origin). record { revision = k; place = p; brought = b } ∷ os) (take-settled k (p + 1) n xs)
 
 -- what is of earlier texts keeps its origins
-settled-earlier : (k p : ℕ) (os : List Origin) → settled k p (map Earlier os) ≡ os
+pub settled-earlier : (k p : ℕ) (os : List Origin) → settled k p (map Earlier os) ≡ os
 settled-earlier k p [] = refl
 settled-earlier k p (o ∷ os) = ap (λ (l : List Origin). o ∷ l) (settled-earlier k (p + 1) os)
 

@@ -1,5 +1,5 @@
 -- One step back from a place of a text into which its command puts one splice.
-use Rattle.std.specs.Prelude.{ℕ, ◌+◌, ◌-◌, Option, Some, None, nat_lt, if◌then◌else◌}
+use Rattle.std.specs.Prelude.{◌≡◌, ◌⊎◌, ℕ, ◌+◌, ◌-◌, ◌≤◌, Option, Some, None, nat_lt, if◌then◌else◌}
 use Rattle.command_parts.specs.declared.edit.Edit.{Edit}
 use Rattle.command_parts.specs.declared.edit.Splice.{Splice}
 use Rattle.byte_origins.specs.declared.run.Brought.TheVariants.{Pool}
@@ -26,9 +26,11 @@ spliced_of len k place r s =
     else if nat_lt (place - s.p) s.n then run_of k place (Pool (s.a + (place - s.p))) (s.n - (place - s.p))
     else from_place r len (s.p + s.m + ((place - s.p) - s.n))
 
--- Where len bytes beside a splice stand in the text that it was put into, where they all stand in front of it or all
--- behind it.
-abbrev pub place_beside : Splice → ℕ → ℕ → Option ℕ
-place_beside s place len =
-    if nat_lt place s.p then (if nat_lt (s.p - place) len then None else Some place)
-    else (if nat_lt (place - s.p) s.n then None else Some (s.p + s.m + ((place - s.p) - s.n)))
+-- bytes stand all in front of a splice, or all behind what it puts in
+abbrev pub StandsBeside : Splice → ℕ → ℕ → Type 0
+StandsBeside s place len = (place + len ≤ s.p) ⊎ (s.p + s.n ≤ place)
+
+-- where such bytes stand in the text that the splice was put into
+abbrev pub IsPlaceBeside : Splice → ℕ → ℕ → ℕ → Type 0
+IsPlaceBeside s place len i =
+    ((place + len ≤ s.p) × (i ≡ place)) ⊎ ((s.p + s.n ≤ place) × (i + s.n ≡ place + s.m))

@@ -2,13 +2,15 @@
 use Rattle.std.specs.Prelude.{◌≡◌, ◌≢◌, ℕ, ◌+◌, ◌-◌, ◌<◌, ◌≤◌, List, [], ◌∷◌, ◌++◌, length, map, take, drop, slice_get, Option, Some, None, MatchOption, nat_lt, if◌then◌else◌}
 use Rattle.std.specs.List.{range_with_len}
 use Rattle.image_reader.specs.Value.{ImageValue}
-use Rattle.image_reader.specs.Accepted.{splices_before}
+use Rattle.command_parts.specs.declared.edit.Splice.{Splice}
+use Rattle.image_reader.specs.Accepted.{revision_at, splices_before}
 use Rattle.byte_origins.specs.declared.run.Origin.{Origin}
 use Rattle.byte_origins.specs.declared.run.OriginRun.{OriginRun}
 use Rattle.byte_origins.specs.declared.stretch.Stretch.{Stretch}
 use Rattle.byte_origins.specs.Behind.{origin_behind}
 use Rattle.byte_origins.specs.EarlierTexts.{len_of_text}
 use Rattle.byte_origins.specs.Origins.{origins_at, run_origins}
+use Rattle.byte_origins.specs.SplicedTexts.{StandsBeside, one_splice}
 use Rattle.byte_origins.specs.declared.taking.CameFrom.TheVariants.{FromText}
 use Rattle.byte_origins.specs.StepsBack.{CameTogether, IsFromText, step_back}
 
@@ -39,6 +41,11 @@ pub record MovesWithin (v : ImageValue) (x y : Stretch) (n : ℕ) : Type 0 where
 -- so they do of so many
 abbrev pub IsMoved : ImageValue → Stretch → Stretch → Type 0
 IsMoved v x y = (n : ℕ) × MovesWithin v x y n
+
+-- the command of its text puts one splice into an earlier one, and the stretch stands beside that
+pub record IsBesideSplice (v : ImageValue) (x : Stretch) (r : ℕ) (s : Splice) : Type 0 where
+  pub command : one_splice (revision_at v x.revision).edit ≡ Some (r, s)
+  pub beside : StandsBeside s x.place x.len
 
 -- what lies behind the first n bytes of a stretch
 abbrev pub stretch_behind : Stretch → ℕ → Stretch

@@ -2,13 +2,14 @@
 
 // The lines `let _count = image.revisions();` are for the proof: the image's records are true, as this call says.
 
-ghost use Rattle.std.specs.Prelude.{◌≡◌, ◌↔◌, ◌+◌, ◌<◌, ◌≤◌, ◌^◌, ◌++◌, [], length, min, IfOk, IfSome, IsSome, OnErr, MatchOption, vec_len, vec_capacity};
+ghost use Rattle.std.specs.Prelude.{ℕ, ◌≡◌, ◌↔◌, ◌+◌, ◌<◌, ◌≤◌, ◌^◌, ◌++◌, [], length, min, IfOk, IfSome, IsSome, OnErr, MatchOption, vec_len, vec_capacity};
 ghost use Rattle.std.specs.List.{AllByRecursion};
 ghost use Rattle.image_reader.specs.Accepted.{splices_before};
 ghost use Rattle.byte_origins.specs.Origins.{origins_at, run_origins};
 ghost use Rattle.byte_origins.specs.OriginTexts.{NameTexts};
 ghost use Rattle.byte_origins.specs.StepsBack.{IsStepBack};
-ghost use Rattle.byte_origins.specs.Stretches.{IsMoved, IsRestOf, IsStretch, left_origins, put_back, splice_starts, stretch_behind};
+ghost use Rattle.command_parts.specs.declared.edit.Splice.{Splice};
+ghost use Rattle.byte_origins.specs.Stretches.{IsBesideSplice, IsMoved, IsRestOf, IsStretch, left_origins, put_back, splice_starts, stretch_behind};
 
 use crate::ropes::Ropes;
 use crate::run::OriginRun;
@@ -67,7 +68,8 @@ impl Stretch {
     /// them all. For this no length of a text is looked at.
     pub fn moved(self, image: &Checked) -> Option<Stretch>
         requires { IsStretch image.now self }
-        ensures { IfSome result (IsMoved image.now self) }
+        ensures moved { IfSome result (IsMoved image.now self) }
+        ensures found { (r : ℕ) (s : Splice) → IsBesideSplice image.now self r s → IsSome result }
     {
         let _count = image.revisions();
         let revisions = Revisions::over(image.image());

@@ -3,16 +3,16 @@
 // The lines `let _count = ..` and `let _image = ..` are for the proof: the image's
 // records are true, and its texts a sound table, as these calls say.
 
-ghost use Rattle.std.specs.Prelude.{◌≡◌, ◌+◌, ◌^◌, ◌<◌, ◌≤◌, length, Some};
+ghost use Rattle.std.specs.Prelude.{◌≡◌, ◌+◌, ◌^◌, ◌<◌, ◌≤◌, length, MatchOption, Some};
 ghost use Rattle.rope_node.specs.declared.limits.TheConstants.{TEXT_LIMIT};
 ghost use Rattle.image_reader.specs.Accepted.{revision_at, splices_before};
 ghost use Rattle.command_parts.specs.Parts.{part_at, part_len, IsPart};
 ghost use Rattle.byte_origins.specs.EarlierTexts.{len_of_text, texts_parts, texts_table};
-ghost use Rattle.byte_origins.specs.SplicedTexts.{one_splice, place_beside, spliced_of};
+ghost use Rattle.byte_origins.specs.SplicedTexts.{IsPlaceBeside, one_splice, spliced_of};
 ghost use Rattle.byte_origins.specs.StepsBack.{came_len, IsStepBack, run_of, step_back, taken_of};
 
 use crate::run::{Brought, Origin, OriginRun};
-use crate::texts::TextsBefore;
+use crate::texts::{TextsBefore, len_of_text};
 use command_parts::{Edit, Part, PartIter, Splice, Splices, parts};
 use image_reader::Revisions;
 use rope_node::{NodeSpace, rope_len};
@@ -162,24 +162,14 @@ pub(crate) fn one_splice(edit: Edit) -> Option<(u32, Splice)>
     }
 }
 
-/// How long text `r` is.
-#[inline(always)]
-fn len_of_text(image: &Checked, r: u32) -> u64
-    requires { r < length image.now.revisions }
-    ensures value { result ≡ len_of_text image.now r }
-    ensures limit { result < TEXT_LIMIT }
-{
-    let _count = image.revisions();
-    rope_len(image, image.image().root(r))
-}
-
-/// Where `len` bytes beside a splice stand in the text that it was put into, where they all stand in front of it or all
-/// behind it.
+/// Where `len` bytes stand in the text that a splice was put into, where they all stand in front of it or all behind it.
 #[inline(always)]
 pub(crate) fn place_beside(splice: Splice, place: u64, len: u64) -> Option<u64>
+    requires some { 1 ≤ len }
     requires fits { splice.p + splice.m < 2 ^ 64 }
     requires inside { place + splice.m < 2 ^ 64 + splice.n }
-    ensures { result ≡ place_beside splice place len }
+    ensures { MatchOption result ((splice.p < place + len) × (place < splice.p + splice.n))
+        (IsPlaceBeside splice place len) }
 {
     let Splice { p, m, n, .. } = splice;
     if place < p {

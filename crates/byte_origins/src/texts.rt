@@ -13,6 +13,17 @@ use command_parts::Roots;
 use rope_node::{NodeId, NodeSpace, NodeView, Rope, rope_len};
 use session_checker::Checked;
 
+/// How long text `r` is.
+#[inline(always)]
+pub(crate) fn len_of_text(image: &Checked, r: u32) -> u64
+    requires { r < length image.now.revisions }
+    ensures value { result ≡ len_of_text image.now r }
+    ensures limit { result < TEXT_LIMIT }
+{
+    let _count = image.revisions();
+    rope_len(image, image.image().root(r))
+}
+
 /// The texts of an image's revisions before revision `k`. Node `j` is text `j`, whatever its bytes are.
 #[derive(Drop)]
 pub(crate) struct TextsBefore<'i, 'a> {
@@ -44,7 +55,7 @@ impl<'i, 'a> TextsBefore<'i, 'a> {
         ensures true_records { HasTrueRecords (texts_table self.now.image.now self.now.k) }
     {
         let _count = self.image.revisions();
-        rope_len(self.image, self.image.image().root(j))
+        len_of_text(self.image, j)
     }
 }
 

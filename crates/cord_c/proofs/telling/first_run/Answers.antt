@@ -23,8 +23,8 @@ back-preserved c =
 
 pub back-preserved-in-Some : goal.back-preserved-in-Some
 back-preserved-in-Some c =
-    let n = c.in-Some.ensures.0 in
-    let moves = c.in-Some.ensures.1 in
+    let n = c.in-Some.ensures.moved.0 in
+    let moves = c.in-Some.ensures.moved.1 in
     let len = moves.len in
     let whole = moves.whole in
     let order = c.back.invariant.order in

@@ -22,8 +22,8 @@ place_beside-requires-clause-inside c =
     let inside = s.inside in
     omega (arith, inside, short)
 
-pub returns : goal.returns
-returns c =
+pub returns-clause-moved : goal.returns-clause-moved
+returns-clause-moved c =
     let v = c.args.image.now in
     let k = c.args.self.revision in
     let t = c.revisions-count.ensures.true_records in
@@ -32,7 +32,7 @@ returns c =
     let last = splice_is c.args.image.now c.over-revisions.result c.args.self.revision (c.args.self.place + c.args.self.len - 1) c.in-Some.r c.revision-revision.result c.in-Some.splice c.one_splice.result c.revisions-count.ensures.true_records c.requires.there (omega (arith, c.requires.some, c.requires.inside)) (c.over-revisions.ensures ∙ c.image.ensures) c.revision-revision.ensures.at c.one_splice.ensures c.in-Some.is in
     let room = last.inside in
     let whole = len_of_text v c.in-Some.r in
-    let beside = stands_beside k c.args.self.place c.args.self.len c.in-Some.r whole c.in-Some-place_beside.place c.in-Some.splice (omega (arith, room, some)) first.fits (sym c.place_beside.ensures ∙ c.in-Some-place_beside.is) in
+    let beside = stands_beside k c.args.self.place c.args.self.len c.in-Some.r whole c.in-Some-place_beside.place c.in-Some.splice some (omega (arith, room, some)) first.fits c.in-Some-place_beside.ensures in
     let back = first.back ∙ ap Some beside.1 in (
       beside.0,
       record {
