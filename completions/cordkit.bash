@@ -10,7 +10,7 @@ _cordkit_kinds() {
         cut) echo number number file ;;
         join) echo files ;;
         find) echo number text file ;;
-        cmp | edit) echo file file ;;
+        cmp | edit | serve) echo file file ;;
         cordedit) [[ -n $continued ]] && echo file file file || echo file file ;;
         help) echo command ;;
     esac
@@ -20,7 +20,7 @@ _cordkit_options() {
     case $1 in
         cordkit-verify) echo --text --graph --at-most --help ;;
         check | migrate) echo --at-most --length --explain --quiet --help ;;
-        show | commit | restore) echo --at-most --explain --quiet --help ;;
+        show | commit | restore | serve) echo --at-most --explain --quiet --help ;;
         log) echo --at-most --length --brief --explain --quiet --help ;;
         blame) echo --at-most --start --count --explain --quiet --help ;;
         apply) echo --onto --at-most --explain --quiet --help ;;
@@ -59,7 +59,7 @@ _cordkit_read() {
 }
 
 _cordkit() {
-    local commands='check show cut join find cmp edit migrate log blame apply commit restore help'
+    local commands='check show cut join find cmp edit migrate log blame apply commit restore serve help'
     local IFS=$' \t\n' command='' place=0 ended='' valued='' continued='' redirected='' kind kinds
     COMPREPLY=()
     [[ ${1##*/} == cordkit ]] || command=${1##*/}

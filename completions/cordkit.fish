@@ -1,6 +1,6 @@
 # Completions of cordkit for fish. Files are offered where no rule says otherwise.
 
-set --local commands check show cut join find cmp edit migrate log blame apply commit restore help
+set --local commands check show cut join find cmp edit migrate log blame apply commit restore serve help
 set --local none "not __fish_seen_subcommand_from $commands"
 
 complete -c cordkit -n $none -f
@@ -21,8 +21,9 @@ complete -c cordkit -n $none -a blame -d 'Tell where each byte of a revision\'s 
 complete -c cordkit -n $none -a apply -d 'Write the session that a script of commands makes'
 complete -c cordkit -n $none -a commit -d 'Keep what a file holds now as the next state of a saved session'
 complete -c cordkit -n $none -a restore -d 'Give a file the text of a revision, once what it holds is committed'
+complete -c cordkit -n $none -a serve -d 'Take commands and questions for a saved session, one per line, and answer each'
 complete -c cordkit -n $none -a help -d 'Print the help of the program or of a command'
-complete -c cordkit -n '__fish_seen_subcommand_from check show migrate log blame apply commit restore' -l at-most -x -d 'The most looks at nodes that the check may take'
+complete -c cordkit -n '__fish_seen_subcommand_from check show migrate log blame apply commit restore serve' -l at-most -x -d 'The most looks at nodes that the check may take'
 complete -c cordkit -n '__fish_seen_subcommand_from check migrate log' -l length -x -d 'How many bytes a source has whose file is not given'
 complete -c cordkit -n '__fish_seen_subcommand_from log' -l brief -d 'Write at most 60 bytes of each text'
 complete -c cordkit -n '__fish_seen_subcommand_from blame' -l start -x -d 'The place of the first byte'

@@ -5,15 +5,19 @@ renames or removes a file, or that call fails; or where a file gets longer than 
 what goes on crashes too. After each crash the image is the older one or the newer one, byte for byte, and no key that a frame told is lost. In the end the
 newer image is there, what cordedit was asked for beside it, and nothing else but a digest of the file.
 
+So do sessions that `cordkit serve` feeds by lines, which save twice: each line that was answered is in the image or behind it in image.lines.
+
 Usage: tests/crashes.py [CRASHES [PROGRAM [FIRST]]]: so many crashes of each session, taken by chance, and as many rows of them, from the seed FIRST on;
 where the number is 0 each crash, and a hundred rows. Where there is no strace nothing is tried, which is told. The last line is 'N passed, M failed'.
 """
 
 import collections
+import hashlib
 import multiprocessing
 import os
 import pty
 import random
+import re
 import resource
 import select
 import shutil
@@ -44,6 +48,7 @@ class Session:
     asked: dict = field(default_factory=dict)
     by_script: bool = False
     in_terminal: bool = False
+    is_served: bool = False
 
 
 def edit(*words):
@@ -65,7 +70,15 @@ SESSIONS = [
     Session("cordedit begins with another image's text", ["--continue", "other", "image"], ("other",), {"image.0": "copy"}, True),
     Session("cordedit in a terminal", ["--text", "out", "image", "file"], ("file",), {"out": "text"}, True, True),
     Session("cordedit in a terminal, behind the image", ["image", "file"], ("image", "file"), {}, True, True),
+    Session("served from nothing", ["serve", "--explain", "image"], is_served=True),
+    Session("served behind the image", ["serve", "--explain", "image"], ("image",), is_served=True),
+    Session("served over a file", ["serve", "--explain", "image", "file"], ("file",), is_served=True),
+    Session("served behind the image, over a file", ["serve", "--explain", "image", "file"], ("image", "file"), is_served=True),
 ]
+
+# Lines of a session that is served, each behind its last revision, `sync` between them, so that each is kept by a write of its own, and where it saves.
+LINES, SAVED_AT, SYNC = ["insert LAST 0 \"ab\"", "replace LAST 1 1 \"c\" # a comment", "delete LAST 0 1", "insert LAST 0 \"d\\n\"", "back LAST"], (3, 5), b"sync"
+NUMBERED = re.compile(rb"^(\d+) \d+$", re.M)
 
 
 @dataclass(frozen=True)
@@ -147,6 +160,10 @@ class Room:
     def crashed(self, crash):
         return self.run(self.left(), crash.limit, crash.tracer())
 
+    def whole(self):
+        """What is typed where nothing crashes."""
+        return KEYS + SAVE
+
     def kept(self):
         """The keys that are kept: those that were set aside, where there are no others."""
         keys = [(self.read(name) or b"")[HEADER:] for name in ("image.keys", "image.keys.saved")]
@@ -221,6 +238,82 @@ class Room:
         return self.fault_at_end(self.go_on())
 
 
+class ServedRoom(Room):
+    """The same of a session that is served: its lines in the place of keys, its answers in the place of frames."""
+
+    def base(self):
+        """How many of the lines the image has, or nothing, where it is none of those that may be there. One that is not there has none of them."""
+        data = self.read("image") or self.made["images"][0]
+        return self.made["images"].index(data) if data in self.made["images"] else None
+
+    def lines_in(self, name):
+        """The lines of a file that go on from the image, without a last one that has no end."""
+        image = self.read("image") or self.made["images"][0]
+        digest = hashlib.sha256(image + (self.made["file"] if "file" in self.words else b"")).hexdigest().encode()
+        first, *lines = (self.read(name) or b"").split(b"\n")[:-1] or [b""]
+        return lines if first.endswith(digest) else []
+
+    def total(self):
+        """How many lines are there, in the image and behind it."""
+        base = self.base()
+        kept = self.lines_in("image.lines") or self.lines_in("image.lines.saved")
+        return base + len(kept) if base is not None and kept == self.made["lines"][base : base + len(kept)] else None
+
+    def requests(self, start):
+        given = []
+        for number, line in enumerate(self.made["lines"][start:], start + 1):
+            given += [line, SYNC, *([b"save"] if number in SAVED_AT else [])]
+        return b"\n".join([*given, b"save", b"quit", b""])
+
+    def whole(self):
+        return self.requests(0)
+
+    def left(self):
+        return self.requests(self.total())
+
+    def is_saved(self):
+        return self.read("image") == self.made["newer"]
+
+    def fault_behind(self, shown):
+        numbers = [int(number) - self.made["first"] + 1 for number in NUMBERED.findall(shown)]
+        self.told = max([self.told, *numbers])
+        if self.base() is None:
+            return "an image that is none of those"
+        total = self.total()
+        if total is None or total < self.told:
+            return f"{self.told} lines were answered, and {self.read('image.lines')} is kept behind {self.base()} of them"
+        return None
+
+
+def room_of(program, session, made):
+    return (ServedRoom if session.is_served else Room)(program, session, made)
+
+
+def made_of_served(program, session):
+    """What is there before, each image that a session which is served may leave, the last of them, and its lines."""
+    files = [name for name in ("file",) if name in session.words]
+    with tempfile.TemporaryDirectory() as folder:
+
+        def run(*words, given=b""):
+            return subprocess.run([program, *words, *files], input=given, stdout=subprocess.PIPE, cwd=folder, check=True).stdout
+
+        def write(name, data):
+            with open(f"{folder}/{name}", "wb") as file:
+                file.write(data)
+
+        write("file", b"one\ntwo\n")
+        first = 0
+        if "image" in session.begun:
+            write("older", run("apply", "/dev/stdin", given=b'open 0\ninsert 0 3 "x"\n' if files else b'new\ninsert 0 0 "xy"\n'))
+            first = 2
+        else:
+            write("older", run("apply", "/dev/stdin"))
+        begin = [] if first else [b"open 0" if files else b"new"]
+        lines = begin + [line.replace("LAST", str(first + len(begin) + k - 1)).encode() for k, line in enumerate(LINES)]
+        images = [run("apply", "--onto", "older", "/dev/stdin", given=b"".join(line + b"\n" for line in lines[:count])) for count in range(len(lines) + 1)]
+        return {"file": b"one\ntwo\n", "image": images[0], "images": images, "newer": images[-1], "lines": lines, "first": first}
+
+
 def made_of(program, session):
     """What is there before, and what is there in the end."""
     over = [name for name in ("file", "copy") if name in (*session.words, *session.asked.values())]
@@ -246,8 +339,8 @@ def made_of(program, session):
 
 def crashes_of(program, session, made):
     """Each crash of a session: at each call in each way, of which one empties a file of keys that is left; and at each length of a file, by a script each 7th."""
-    room = Room(program, session, made)
-    room.run(KEYS + SAVE, NO_CRASH.limit, ["strace", "-f", "-qq", "-A", "-o", f"{room.around}/trace", "-e", f"trace={CALLS}"])
+    room = room_of(program, session, made)
+    room.run(room.whole(), NO_CRASH.limit, ["strace", "-f", "-qq", "-A", "-o", f"{room.around}/trace", "-e", f"trace={CALLS}"])
     with open(f"{room.around}/trace", encoding="utf-8", errors="replace") as trace:
         counted = collections.Counter((line.split()[0], line.split(None, 1)[1].partition("(")[0]) for line in trace)
     most = {"ftruncate": 1} | {call: max(count for (_, other), count in counted.items() if other == call) for _, call in counted if call in CALLS.split(",")}
@@ -258,7 +351,7 @@ def crashes_of(program, session, made):
 def run_one(given):
     program, session, made, crashes = given
     try:
-        fault = Room(program, session, made).fault(crashes)
+        fault = room_of(program, session, made).fault(crashes)
     except subprocess.TimeoutExpired:
         fault = "it does not end"
     return f"{session.name}, {crashes}: {fault}" if fault else None
@@ -267,7 +360,7 @@ def run_one(given):
 def tried(program, count, first):
     """What is run: a session, and its crashes."""
     for session in SESSIONS:
-        made = made_of(program, session)
+        made = made_of_served(program, session) if session.is_served else made_of(program, session)
         each = crashes_of(program, session, made)
         few = random.Random(first).sample(each, min(count, len(each))) if count else each
         yield from ((program, session, made, [crash]) for crash in few)
@@ -281,7 +374,7 @@ def main():
     program = os.path.abspath(sys.argv[2] if len(sys.argv) > 2 else PROGRAM)
     first = int(sys.argv[3]) if len(sys.argv) > 3 else 0
     if not shutil.which("strace"):
-        print("LEFT OUT: crashes of the editor: there is no strace here", "0 passed, 0 failed", sep="\n")
+        print("LEFT OUT: crashes of sessions: there is no strace here", "0 passed, 0 failed", sep="\n")
         return 0
     with multiprocessing.Pool() as pool:
         results = list(pool.imap_unordered(run_one, tried(program, count, first)))

@@ -36,7 +36,8 @@ status=0
 is_stopped "a folder as input" read
 for words in "check . $folder/abc" "show . 1" "show stdin 1 ." "migrate ." "apply ." "apply --onto stdin ." "apply --onto . $folder/abc" "cut 0 1 ." \
     "join $folder/abc ." "find 0 c ." "cmp $folder/abc ." "edit $folder/image ." "edit --onto . $folder/image" \
-    "edit --onto stdin $folder/image ." "edit --onto . --keep $folder/keys $folder/image" "edit --onto stdin --keep $folder/keys $folder/image ."; do
+    "edit --onto stdin $folder/image ." "edit --onto . --keep $folder/keys $folder/image" "edit --onto stdin --keep $folder/keys $folder/image ." \
+    "serve $folder/image ."; do
     status=0
     "$program" $words < /dev/null > "$out" 2> "$err" || status=$?
     is_stopped "a folder: $words" read
@@ -53,6 +54,44 @@ for words in "check stdin" "show stdin 1" "migrate stdin" "cut 0 1 $folder/abc" 
     "$program" $words < /dev/null > /dev/full 2> "$err" || status=$?
     is_stopped "a full device: $words" write
 done
+
+# A session that is served: what it answers is kept before, where no answer can be written; and a line that has no room is neither kept nor answered.
+printf 'new\ninsert 0 0 "abc"\n' > "$folder/requests"
+status=0
+"$program" serve "$folder/served" < "$folder/requests" >&- 2> "$err" || status=$?
+is_stopped "no output of a session that is served" write
+tail -n +2 "$folder/served.lines" > "$out"
+is_stopped "its lines are kept" write "$(cat "$folder/requests")"
+: > "$out"
+status=0
+printf 'last\n' | "$program" serve "$folder/served" > /dev/full 2> "$err" || status=$?
+is_stopped "its answers on a full device" write
+status=0
+"$program" serve "$folder/served" < . > "$out" 2> "$err" || status=$?
+is_stopped "a folder as its requests" read
+{ printf 'last\nsync\ninsert 1 3 "' && head -c 500 /dev/zero | tr '\0' x && printf '"\nlast\n'; } > "$folder/requests"
+status=0
+(
+    trap '' XFSZ
+    ulimit -f 1
+    exec "$program" serve "$folder/served" < "$folder/requests" > "$out" 2> "$err"
+) || status=$?
+is_stopped "no room for a line" write "$(printf '1 3\nsynced 1')"
+printf 'last\n' | "$program" serve "$folder/served" > "$out"
+is_stopped "it is not there" write '1 3'
+{ printf 'insert 1 3 "' && head -c 300 /dev/zero | tr '\0' x && printf '"\nsync\nsave\n'; } > "$folder/requests"
+cp "$folder/served" "$folder/before"
+status=0
+(
+    trap '' XFSZ
+    ulimit -f 1
+    exec "$program" serve "$folder/served" < "$folder/requests" > "$out" 2> "$err"
+) || status=$?
+is_stopped "no room for its image" write "$(printf '2 303\nsynced 2')"
+printf 'last\nsave\n' | "$program" serve "$folder/served" > "$out"
+cmp -s "$folder/served" "$folder/before" && echo 'not saved' >> "$out"
+[ ! -e "$folder/served.lines" ] && [ ! -e "$folder/served.new" ] || echo 'something is left' >> "$out"
+is_stopped "all is kept, and is saved then" write "$(printf '2 303\nsaved 2')"
 
 # The output takes only the first bytes of the line: a file that may hold 512 bytes has room for no more.
 taken=0

@@ -54,9 +54,10 @@ try 'damaged images' python3 python3 tests/damaged_images.py 100000
 try 'sessions of keys' python3 python3 tests/random_keys.py 1000
 try 'scripts and logs' python3 python3 tests/random_scripts.py 1000
 try 'scripts behind images' python3 python3 tests/going_on.py 1000
+try 'requests, killed too' python3 python3 tests/random_served.py 1000
 try 'commits, killed and two at once too' python3 python3 tests/commits.py 1000
 try 'files that were edited' 'python3 git' python3 tests/edited_files.py all
-try 'crashes of the editor' 'python3 strace' python3 tests/crashes.py
+try 'crashes of sessions' 'python3 strace' python3 tests/crashes.py
 try 'a hundred saves of vim and kakoune' python3 python3 tests/editor_saves.py
 try 'the bytes of open files, behind 2^32 too' python3 python3 tests/open_files.py
 try 'where bytes come from' python3 python3 tests/random_blames.py 2000

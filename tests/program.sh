@@ -502,6 +502,131 @@ try_last_commits() {
     rm -f made made.* note note_too further before
 }
 
+# The header of the lines that go on from an image with these files.
+lines_over() {
+    { printf 'CORDKEYS\0\0\0\2\0\0\0' && if [ $# = 2 ]; then printf '\1\0\0\0\0\0\0\0\3'; else printf '\0\0\0\0\0\0\0\0\0'; fi; } | od -An -tx1 | tr -d ' \n'
+    cat "$@" | sha256sum | head -c 64
+}
+
+# Waits until a file has so many lines, for a minute at most.
+await_lines() {
+    tries=0
+    until [ "$(wc -l < "$2")" = "$1" ] || [ "$tries" = 600 ]; do
+        sleep 0.1
+        tries=$((tries + 1))
+    done
+}
+
+# A session that is served: requests and their answers, what is kept, what a save leaves, and who is refused meanwhile.
+try_served() {
+    printf 'new\ninsert 0 0 "abc"\n\n# a comment\nlast\nlength 1\nbytes 1 1 2\nfind 1 0 "c"\nfind 1 0 "x"\n' > requests
+    printf 'bytes 1 2 2\nlength 2\ninsert 0 0 abc\ninsert 2 0 "a"\nsync\nlast 1\nquit\nnew\n' >> requests
+    try 'requests and answers' 'serve served' requests 0 \
+        '0 0\n1 3\nnone\nnone\n1 3\n1 3\n"bc"\n2\nnone\nrefused E3\nrefused E1\nrefused P\nrefused E1\nsynced 1\nrefused P\n' ''
+    is 'the image is not saved' "$("$program" check served)" 'accepted 0 revisions 0 nodes 0 rows'
+    is 'what is kept' "$(cat served.lines)" "# cordkit lines $(lines_over served)
+new
+insert 0 0 \"abc\""
+    is 'for its owner alone' "$(stat -c %a served.lines)" 600
+    "$program" apply --onto served served.lines > by_hand
+    is 'and makes the session by hand' "$("$program" show by_hand)" abc
+    for words in 'commit served abc' 'edit served' 'edit --keep=served.keys served' 'edit --onto=served --keep=served.keys served'; do
+        try "while lines are kept: $words" "$words" key_save 1 '' 'refused J2\n'
+    done
+    try 'and in words' 'commit --explain served abc' '' 1 '' 'refused J2\nJ2: cordkit serve keeps the lines of a session in served.lines, and has not saved them\n'
+    is 'nothing else is made' "$(echo served*)" 'served served.lines'
+    printf 'insert 1 0 "' >> served.lines
+    printf 'last\ninsert 1 3 "d"\nlast' > requests
+    try 'a line that was cut, and a request that is' 'serve served' requests 0 '1 3\n2 4\n' ''
+    is 'what is kept then' "$(tail -n +2 served.lines)" 'new
+insert 0 0 "abc"
+insert 1 3 "d"'
+    ln -s served link_of_served
+    printf 'save\ninsert 2 4 "e"\nsave\nsync\n' > requests
+    try 'saves, by a link' 'serve link_of_served' requests 0 'saved 2\n3 5\nsaved 3\nsynced 3\n' ''
+    is 'the image alone is left' "$(echo served*) $("$program" show served)" 'served abcde'
+    printf 'last\nsave\nsync\n' > requests
+    try 'no revision' 'serve served_anew' requests 0 'none\nsaved none\nsynced none\n' ''
+    is 'an image all the same' "$("$program" check served_anew)" 'accepted 0 revisions 0 nodes 0 rows'
+    printf 'new\n' > requests
+    head -c 77 served.lines 2> /dev/null > served_anew.lines
+    printf '# cordkit lines 434f52' > served_anew.lines
+    try 'a header that was cut' 'serve served_anew' requests 0 '0 0\n' ''
+    is 'is written to its end' "$(cat served_anew.lines)" "# cordkit lines $(lines_over served_anew)
+new"
+    mv served_anew.lines served.lines
+    try 'lines of another image' 'serve --explain served' requests 1 '' \
+        'refused J1\nJ1: served.lines has the lines of another image or file, or something else\n'
+    is 'stay' "$(tail -n +2 served.lines)" new
+    { head -n 1 served.lines | head -c 16 && lines_over served && printf '\ninsert 3 0 "x"\nback 9\n'; } > further
+    mv further served.lines
+    try 'a kept line that is refused' 'serve --explain served' requests 1 '' 'refused E1(3)\nE1(3): line 3 of served.lines names a revision that is not there\n'
+    is 'stays' "$(tail -n 1 served.lines)" 'back 9'
+    mv served.lines served.lines.saved
+    try 'lines that are set aside' 'commit served abc' '' 1 '' 'refused J2\n'
+    try 'and a file to restore' 'restore served 0 abc' '' 1 '' 'refused J2\n'
+    sed -i '$d' served.lines.saved
+    printf 'last\n' > requests
+    try 'are taken up where the image is the older one' 'serve served' requests 0 '4 6\n' ''
+    is 'by their name' "$(echo served.*)" served.lines
+    mv served.lines served.lines.saved
+    "$program" apply --onto served served.lines.saved > further
+    mv further served
+    cp served served.new
+    try 'stay where the new image is not in its place' 'serve served' requests 1 '' 'refused J1\n'
+    rm served.new
+    try 'and dropped where it has them' 'serve served' requests 0 '4 6\n' ''
+    is 'with their name' "$(echo served*)" 'served served_anew'
+    : > answers
+    { printf 'insert 4 0 "y"\nlast\n' && await_lines 2 answers && rm served.lines && printf 'sync\nsave\nlast\nsync\n'; } | "$program" serve served > answers
+    is 'a journal that is taken away' "$(cat answers) $(echo served*) $("$program" show served | wc -c)" '5 7
+5 7
+refused J5
+saved 5
+5 7
+synced 5 served served_anew 7'
+    { printf 'CORDKEYS' && head -c 48 /dev/zero && printf a; } > served.keys
+    try 'keys beside the image' 'serve --explain served' requests 1 '' 'refused J2\nJ2: a session keeps its keys in served.keys, and has not saved them\n'
+    truncate -s 56 served.keys
+    try 'no keys beside the image' 'serve served' requests 0 '5 7\n' ''
+    printf 'open 0\nlast\ninsert 0 3 "d"\nbytes 1 1 3\nfind 1 1 "cd"\nsave\n' > requests
+    try 'over a file' 'serve served_over abc' requests 0 '0 3\n0 3\n1 4\n"bcd"\n2\nsaved 1\n' ''
+    is 'its digest beside the image' "$(echo served_over*) $(cat served_over.sources)" "served_over served_over.sources $(line_over abc)"
+    printf 'insert 1 0 "a"\n' > requests
+    try 'it goes on' 'serve served_over abc' requests 0 '2 5\n' ''
+    is 'over the file too' "$(cat served_over.lines)" "# cordkit lines $(lines_over served_over abc)
+insert 1 0 \"a\""
+    printf abd > abd
+    try 'over a file of other bytes' 'serve served_over abd' requests 1 '' "$(changed abd served_over)refused J1\n"
+    try 'over a file of another length' 'serve --explain served_over ab' requests 1 '' \
+        'refused C3(0)\nC3(0): source 0, ab, has 2 bytes, and the image was made over 3\n'
+    try 'without its file' 'serve served_over' requests 1 '' 'refused C2\n'
+    try 'an image that is refused' 'serve child_not_earlier' requests 1 '' 'refused C4(1)\n'
+    try 'a look more than the limit' "serve --at-most=136 $(cp one_insert served_one && echo served_one)" requests 1 '' 'refused looks 137\n'
+    is 'nothing is kept' "$(echo served_one* child_not_earlier.*)" 'served_one child_not_earlier.*'
+    try 'as many looks as the limit' 'serve --at-most=137 served_one' nothing 0 '' ''
+    try 'a folder as an image' 'serve folder' requests 3 '' 'read\n'
+    is 'neither there' "$(echo folder.*)" 'folder.*'
+    try 'what is no image' 'serve abcde' requests 1 '' 'refused C1(I1)\n'
+    try 'a device as an image' 'serve /dev/null' requests 3 '' 'write\n'
+    try 'a folder that is not there' 'serve --explain missing/image' requests 3 '' 'write\nwrite: missing/image.lines could not be written: its folder is not there\n'
+    try 'answers on a full device' 'serve served_one' requests 3 /dev/full 'write\n'
+    is 'are kept before' "$(tail -n +2 served_one.lines)" 'insert 1 0 "a"'
+    try 'a folder as requests' 'serve served_anew' folder 3 '' 'read\n'
+    if command -v flock > /dev/null; then
+        : > served.lines
+        flock served.lines sleep 5 &
+        sleep 0.5
+        for words in 'serve served' 'commit served abc' 'edit served' 'edit --keep=served.keys served'; do
+            try "lines that another run has: $words" "$words" requests 1 '' 'refused J2\n'
+        done
+        wait $!
+    else
+        echo "LEFT OUT: lines that another run has: there is no flock here"
+    fi
+    rm -f served served.* served_* link_of_served by_hand requests further answers
+}
+
 # What is longer than a pipe holds, into one whose reader goes.
 try_closed_pipe() {
     { timeout 60 "$program" "$2" --explain "$3" 2> ../err; echo $? > ../status; } | head -c 1 > ../out
@@ -601,6 +726,7 @@ if [ "$cases" = all ]; then
     try_version
     try_sources
     try_last_commits
+    try_served
     try_cut_file 'a file in lines of 60 that is cut behind a frame' 60 51
     try_cut_file 'a file in lines of 48 that is cut behind a frame' 48 64
     if command -v flock > /dev/null; then
@@ -1045,6 +1171,8 @@ help by its word;help;;2;;help.txt
 help for a command;cut --help;;2;;cut_help.txt
 a command that is not known;frobnicate;;2;;error: unrecognized subcommand 'frobnicate'\n\nUsage: cordkit [OPTIONS] [COMMAND]\n\nFor more information, try '--help'.\n
 an option that is not known;--frobnicate;;2;;error: unexpected argument '--frobnicate' found\n\nUsage: cordkit [OPTIONS] [COMMAND]\n\nFor more information, try '--help'.\n
+a word that is missing to serve;serve;;2;;error: the following required arguments were not provided:\n  <IMAGE>\n\nUsage: cordkit serve <IMAGE> [SOURCE]\n\nFor more information, try '--help'.\n
+a source too many to serve;serve a b c;;2;;error: unexpected argument 'c' found\n\nUsage: cordkit serve [OPTIONS] <IMAGE> [SOURCE]\n\nFor more information, try '--help'.\n
 a word that is missing;restore one_insert 0;;2;;error: the following required arguments were not provided:\n  <FILE>\n\nUsage: cordkit restore <IMAGE> <REV> <FILE> [SOURCE]...\n\nFor more information, try '--help'.\n
 a word too many;cmp abc ab abcde;;2;;error: unexpected argument 'abcde' found\n\nUsage: cordkit cmp [OPTIONS] <FIRST> <SECOND>\n\nFor more information, try '--help'.\n
 a number of more than 64 bits;cut 18446744073709551616 1 abcde;;2;;error: invalid value '18446744073709551616' for '<START>': number too large to fit in target type\n\nUsage: cordkit cut [OPTIONS] <START> <COUNT> <FILE>\n\nFor more information, try '--help'.\n

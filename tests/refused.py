@@ -11,7 +11,9 @@
 - in a commit of a file, behind an image and anew: where it ended with `memory` the image is as it was, or none, and the same command with each allocation
   commits the file; the line that tells what else the image had may be missing;
 - in a session whose keys are kept, from nothing, and over an image whose place it takes: where it ended with `memory` there is no image, or that one as
-  it was, and the same command with each allocation plays what was kept and saves it.
+  it was, and the same command with each allocation plays what was kept and saves it;
+- in a session that is served, from nothing, and behind an image: a line may be refused by `memory`, and the session goes on; where it ended with `memory`
+  the same command with each allocation goes on behind each line that was answered, and saves them.
 
 Usage: tests/refused.py [PROGRAM [TESTS]], the built program and the built tests, which `rt test` builds where they are not there. Where there is no
 gcc nothing is tried, which is told. The last line says how many allocations were refused; the status is not 0 where a run failed.
@@ -168,6 +170,15 @@ KEPT = ["edit", "--keep=image.keys", "image"]
 ONTO = ["edit", "--onto=image", "--keep=image.keys", "image"]
 SAVE = b"\x18"
 
+# A session that is served, and what is asked of one that goes on.
+SERVED = ["serve", "image"]
+REQUESTS = {
+    "from nothing": b'new\ninsert 0 0 "abc"\nbytes 1 1 2\nfind 1 0 "c"\nsave\nmany 1 0 1 "x" 2 0 "y"\nsync\nback 1\nsave\nquit\n',
+    "behind an image": b'insert 1 0 "abc"\nbytes 2 1 2\nsave\ndelete 2 0 1\nsave\njoin 2 3\n',
+}
+GOES_ON = b"last\nsave\n"
+NUMBERED = re.compile(rb"^(\d+) \d+$", re.M)
+
 
 class Room:
     """A folder with the files of the rows and the library, in which the program is run."""
@@ -272,6 +283,36 @@ class Room:
             done = found[:2] == whole[:2] and found[2] in (told, b"") and there == newer
             if not stopped and not done:
                 self.fail("a commit", refused + 1, found)
+            if found[3] <= refused:
+                return refused, spared
+            refused += 1
+            spared += found[0] == 0
+
+    def is_well_served(self, found):
+        """Whether a session that was served, of which an allocation was refused, and the same command behind it did what they may."""
+        if (found[0], found[2]) not in ((0, b""), (3, MEMORY)):
+            return False
+        again = self.run(SERVED, "goes_on")
+        first, _, saved = again[1].partition(b"\n")
+        told = [int(number) for number in NUMBERED.findall(found[1])]
+        there = int(first.split()[0]) if NUMBERED.fullmatch(first) else -1
+        is_saved = again[0] == 0 and again[2] == b"" and saved == b"saved %s\n" % (b"none" if there < 0 else b"%d" % there)
+        left = [name for name in ("image.lines", "image.lines.saved", "image.new") if self.image(name) is not None]
+        return is_saved and not left and there >= max(told, default=-1) and self.run(["check", "image"])[1].startswith(b"accepted %d " % (there + 1))
+
+    def try_served(self, name, older):
+        """How many allocations of a session that is served were refused, and in how many of these runs it could live without."""
+        self.put("requests", REQUESTS[name])
+        self.put("goes_on", GOES_ON)
+        spared, refused = 0, 0
+        while True:
+            for left in ("image", "image.lines", "image.lines.saved", "image.new"):
+                self.image(left)
+            if older is not None:
+                self.put("image", older)
+            found = self.run(SERVED, "requests", refused + 1)
+            if not self.is_well_served(found):
+                self.fail(f"a session that is served, {name}", refused + 1, found)
             if found[3] <= refused:
                 return refused, spared
             refused += 1
@@ -383,6 +424,10 @@ def main():
         for words, older in (KEPT, None), (ONTO, room.made["one_insert_in_two"]):
             count, spared = room.try_kept(words, older)
             print(f"keys kept {'from nothing' if older is None else 'over an image'}: {count} allocations refused, {spared} of them spared")
+            refused += count
+        for name, older in ("from nothing", None), ("behind an image", room.made["one_insert_in_two"]):
+            count, spared = room.try_served(name, older)
+            print(f"a session that is served, {name}: {count} allocations refused, {spared} of them spared")
             refused += count
     failed += room.failed
     print(f"{refused} refused, {failed} runs failed")

@@ -1,4 +1,4 @@
-"""Runs what docs/START.md and docs/SCRIPTS.md show, block by block, with the built program, or the one that is named, as `cordkit`, and examples/from_git, and
+"""Runs what docs/START.md, docs/SCRIPTS.md and docs/SERVE.md show, block by block, with the built program, or the one that is named, as `cordkit`, and examples/from_git, and
 compares what each block writes with what stands there. A block that writes nothing there is no example to be run. Where the program has no `log`, or no
 `find --all`, what needs them is not tried, nor is what needs git where there is none: that is told. The last line is 'N passed, M failed'.
 
@@ -13,7 +13,7 @@ import tempfile
 
 from second_checker import PROGRAM, TOP
 
-PAGES = ["docs/START.md", "docs/SCRIPTS.md"]
+PAGES = ["docs/START.md", "docs/SCRIPTS.md", "docs/SERVE.md"]
 NEEDS = {r"cordkit log|cord.textconv": ("log", "x"), r"find --all": ("find", "--all", "0", "x", "/dev/null")}
 
 

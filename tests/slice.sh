@@ -1,8 +1,8 @@
 #!/bin/sh
 # A slice of what `make long` and `make fuzz` run with python, with fixed seeds, in some seconds: the second checker on the worked images, damaged
-# images, keys, scripts, scripts behind images, commits, crashes of the editor, where bytes come from, the inputs that the fuzzer kept, sources of
+# images, keys, scripts, scripts behind images, requests, commits, crashes of sessions, where bytes come from, the inputs that the fuzzer kept, sources of
 # any size, the bytes of open files at each place, and how many blocks of files are kept, over the program that `make run` built or the one that $1 names; the history of README.md as a
-# session, and what docs/START.md and docs/SCRIPTS.md show; what the build before the pass for speed answered, beside the program cord_answers, as
+# session, and what docs/START.md, docs/SCRIPTS.md and docs/SERVE.md show; what the build before the pass for speed answered, beside the program cord_answers, as
 # the gate built it; images by the C library, through its Python module, where `make library` built it; where there is gcc, each allocation of that
 # program's runs refused, and of those of refusal_tests, as the gate built them; and whether docs/HEADLINE.md and docs/DEFINITIONS.md are what specs/
 # say, each new name there one thing, and each call and clause there that a crate's README.md or docs/PROVED.md names, whether wrong edits keep the
@@ -13,7 +13,7 @@ set -u
 top=$(cd "$(dirname "$0")/.." && pwd)
 program=${1:-$top/crates/cordkit/out/cordkit}
 if ! command -v python3 > /dev/null; then
-    echo "LEFT OUT: the second checker, damaged images, keys, scripts, scripts behind images, commits, crashes of the editor, where bytes come from, the history of README.md, the inputs of the fuzzer, large sources, the bytes of open files, blocks that are kept, the answers of the start, refused allocations, docs/HEADLINE.md and docs/DEFINITIONS.md, names, README.md and docs/PROVED.md, wrong edits, which calls have them, what the benchmark names, whole matches, worked images in tests, each tool and its options, CONTRIBUTING.md: there is no python3 here"
+    echo "LEFT OUT: the second checker, damaged images, keys, scripts, scripts behind images, requests, commits, crashes of sessions, where bytes come from, the history of README.md, the inputs of the fuzzer, large sources, the bytes of open files, blocks that are kept, the answers of the start, refused allocations, docs/HEADLINE.md and docs/DEFINITIONS.md, names, README.md and docs/PROVED.md, wrong edits, which calls have them, what the benchmark names, whole matches, worked images in tests, each tool and its options, CONTRIBUTING.md: there is no python3 here"
     echo "0 passed, 0 failed"
     exit 0
 fi
@@ -42,12 +42,13 @@ try 'damaged images' "$top/tests/damaged_images.py" 1050 "$program"
 try 'keys' "$top/tests/random_keys.py" 25 "$program"
 try 'scripts' "$top/tests/random_scripts.py" 60 "$program"
 try 'scripts behind images' "$top/tests/going_on.py" 60 "$program"
+try 'requests' "$top/tests/random_served.py" 12 "$program"
 try 'commits' "$top/tests/commits.py" 40 "$program"
 try 'files that were edited' "$top/tests/edited_files.py" few "$program"
-try 'crashes of the editor' "$top/tests/crashes.py" 3 "$program"
+try 'crashes of sessions' "$top/tests/crashes.py" 3 "$program"
 try 'where bytes come from' "$top/tests/random_blames.py" 60 "$program"
 try 'the history of a file' "$top/tests/git_history.py" "$program"
-try 'what docs/START.md and docs/SCRIPTS.md show' "$top/tests/script_tour.py" "$program"
+try 'what docs/START.md, docs/SCRIPTS.md and docs/SERVE.md show' "$top/tests/script_tour.py" "$program"
 try 'the inputs of the fuzzer' "$top/tests/fuzz_images.py" 0 "$program"
 try 'sources of any size' "$top/tests/large_sources.py" "$program"
 try 'the bytes of open files' "$top/tests/open_files.py" --quick "$program"

@@ -99,6 +99,12 @@ fn inputs<'a>(alloc: Global, action: &Action<'a>) -> Result<Vec<&'a str>, AllocE
                 inputs.push(*file)?;
             }
         }
+        Action::Serve { image, source, .. } => {
+            inputs.push(*image)?;
+            if let Some(source) = source {
+                inputs.push(*source)?;
+            }
+        }
     }
     Ok(inputs)
 }
@@ -125,6 +131,8 @@ enum Run<'a> {
     Commits { image: &'a str, file: &'a str },
     /// The session of an editor.
     Edits(Editing<'a>),
+    /// The session that goes on from this image, and the lines beside it.
+    Serves { image: &'a str },
     /// This file of keys.
     Discards { keys: &'a str },
 }
@@ -159,6 +167,7 @@ fn run_of<'a>(action: &Action<'a>) -> Run<'a> {
             file: *file,
         }),
         Action::Discard { keys } => Run::Discards { keys },
+        Action::Serve { image, .. } => Run::Serves { image },
     }
 }
 
@@ -196,6 +205,7 @@ fn image_of<'a, 'b>(action: &'b Action<'a>) -> Option<(&'a str, &'b [&'a str])> 
         | Action::Cmp { .. }
         | Action::Edit { .. }
         | Action::Discard { .. }
+        | Action::Serve { .. }
         | Action::Apply { onto: None, .. } => None,
     }
 }
@@ -209,7 +219,7 @@ fn is_of_image(run: Run<'_>, name: &str, numbers: &str) -> bool {
         Run::Commits { .. } => {
             !matches!(name, "J2" | "J6") && !matches!(name.as_bytes(), [b'E' | b'N', ..])
         }
-        Run::Reads | Run::Joins | Run::Edits(_) | Run::Discards { .. } => true,
+        Run::Reads | Run::Joins | Run::Edits(_) | Run::Discards { .. } | Run::Serves { .. } => true,
     }
 }
 
@@ -249,6 +259,7 @@ fn lengths_of<'b>(action: &'b Action<'_>) -> &'b [u64] {
         | Action::Discard { .. }
         | Action::Commit { .. }
         | Action::Restore { .. }
+        | Action::Serve { .. }
         | Action::Apply { .. } => &[],
     }
 }
@@ -330,14 +341,15 @@ fn other_sources<R: Files + AllocGlobal>(
     numbers: &str,
 ) -> Option<Sentence> {
     if let Action::Edit {
-        onto: Some(older),
-        file,
+        onto: Some(image),
+        file: source,
         ..
-    } = action
+    }
+    | Action::Serve { image, source, .. } = action
     {
-        return match file {
-            Some(file) => other_given(rt, older, &[*file], numbers),
-            None => other_given(rt, older, &[], numbers),
+        return match source {
+            Some(source) => other_given(rt, image, &[*source], numbers),
+            None => other_given(rt, image, &[], numbers),
         };
     }
     let (image, sources) = image_of(action)?;
@@ -360,6 +372,28 @@ fn no_image<R: Files + AllocGlobal>(rt: &R, image: &str) -> Option<Sentence> {
     Sentence::new(rt.alloc(), text, &part, "")
 }
 
+/// Which lines are of another session.
+fn other_lines<R: Files + AllocGlobal>(rt: &R, image: &str) -> Option<Sentence> {
+    let lines = format!(in rt.alloc(); "{image}.lines").ok()?;
+    let text = "% has the lines of another image or file, or something else";
+    Sentence::new(rt.alloc(), text, &lines, "")
+}
+
+/// Which lines a session keeps, where no keys are kept beside the image.
+fn kept_lines<R: Files + AllocGlobal>(rt: &R, image: &str) -> Option<Sentence> {
+    let keys = format!(in rt.alloc(); "{image}.keys").ok()?;
+    if len(rt, &keys).is_some_and(|size| size > 0) {
+        return None;
+    }
+    let lines = format!(in rt.alloc(); "{image}.lines").ok()?;
+    let aside = format!(in rt.alloc(); "{lines}.saved").ok()?;
+    if len(rt, &lines).is_none() && len(rt, &aside).is_none() {
+        return None;
+    }
+    let text = "cordkit serve keeps the lines of a session in %, and has not saved them";
+    Sentence::new(rt.alloc(), text, &lines, "")
+}
+
 /// What the files say, where they say more than the code means.
 fn seen<R: Files + AllocGlobal>(
     rt: &R,
@@ -374,14 +408,35 @@ fn seen<R: Files + AllocGlobal>(
         },
         "S5" => too_long(rt, action),
         "I3" => match run_of(action) {
-            Run::Edits(Editing { image, .. }) | Run::Commits { image, .. } => no_image(rt, image),
+            Run::Edits(Editing { image, .. })
+            | Run::Commits { image, .. }
+            | Run::Serves { image } => no_image(rt, image),
+            Run::Reads | Run::Joins | Run::Applies { .. } | Run::Discards { .. } => None,
+        },
+        "J1" => match run_of(action) {
+            Run::Serves { image } => other_lines(rt, image),
+            Run::Reads
+            | Run::Joins
+            | Run::Applies { .. }
+            | Run::Commits { .. }
+            | Run::Edits(_)
+            | Run::Discards { .. } => None,
+        },
+        "J2" => match run_of(action) {
+            Run::Edits(Editing { image, .. })
+            | Run::Commits { image, .. }
+            | Run::Serves { image } => kept_lines(rt, image),
             Run::Reads | Run::Joins | Run::Applies { .. } | Run::Discards { .. } => None,
         },
         "C2" | "C3" => other_sources(rt, action, numbers),
         "E3" | "N1" | "P" => match run_of(action) {
             Run::Applies { script } => seen_in_line(rt, script, name, numbers),
-            Run::Reads | Run::Joins | Run::Commits { .. } | Run::Edits(_) | Run::Discards { .. } =>
-                None,
+            Run::Reads
+            | Run::Joins
+            | Run::Commits { .. }
+            | Run::Edits(_)
+            | Run::Discards { .. }
+            | Run::Serves { .. } => None,
         },
         _ => None,
     }
@@ -398,6 +453,9 @@ fn output(alloc: Global, action: &Action<'_>) -> Result<String, AllocError> {
         }
         Run::Discards { keys } => String::from_str(alloc, keys),
         Run::Commits { image, .. } => format!(in alloc; "the image {image} or standard output"),
+        Run::Serves { image } => {
+            format!(in alloc; "the image {image}, the file of its lines or standard output")
+        }
         Run::Reads | Run::Joins | Run::Applies { .. } => String::from_str(alloc, "standard output"),
     }
 }
@@ -421,6 +479,9 @@ fn input(alloc: Global, action: &Action<'_>) -> Result<String, AllocError> {
             format!(in alloc; "standard input, the file of keys or {file}")
         }
         Run::Discards { keys } => String::from_str(alloc, keys),
+        Run::Serves { image } => {
+            format!(in alloc; "standard input, {image} or the file of its lines")
+        }
         Run::Reads | Run::Joins | Run::Applies { .. } | Run::Commits { .. } => {
             one_input(alloc, action)
         }
@@ -447,6 +508,23 @@ fn refused_session(alloc: Global, session: Editing<'_>, name: &str) -> Result<St
     }
 }
 
+/// What the code of a refusal is about, where a session is served: a line that was kept, their file, or the image.
+fn refused_service(
+    alloc: Global,
+    image: &str,
+    name: &str,
+    numbers: &str,
+) -> Result<String, AllocError> {
+    match name.as_bytes() {
+        [b'E' | b'N' | b'P', ..] if !numbers.is_empty() => {
+            format!(in alloc; "line {numbers} of {image}.lines")
+        }
+        _ if name == "J2" => format!(in alloc; "{image}.keys"),
+        _ if name == "J1" => format!(in alloc; "{image}.lines"),
+        _ => String::from_str(alloc, image),
+    }
+}
+
 /// What the code of a refusal is about: a file, or a line of a script.
 fn refused(
     alloc: Global,
@@ -466,6 +544,7 @@ fn refused(
         },
         Run::Discards { keys } => String::from_str(alloc, keys),
         Run::Edits(session) => refused_session(alloc, session, name),
+        Run::Serves { image } => refused_service(alloc, image, name, numbers),
         Run::Joins => String::from_str(alloc, "the files together"),
         Run::Reads | Run::Applies { .. } => input(alloc, action),
     }

@@ -55,10 +55,10 @@ pub enum ToolFault {
     /// The editor took 16,777,216 keys, and none ended its run.
     #[error("refused K2")]
     TooManyKeys,
-    /// The file of keys has keys of another text, or is no journal.
+    /// The journal keeps the keys or the lines of another text, or is no journal.
     #[error("refused J1")]
     OtherKeys,
-    /// Another session has the file of keys.
+    /// Another session has the journal, or keeps one beside the image.
     #[error("refused J2")]
     KeysInUse,
     /// The image is there already, and is not to be replaced.

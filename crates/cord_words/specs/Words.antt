@@ -14,7 +14,7 @@ use Rattle.clap.specs.declared.builder.action.ArgAction.TheVariants.{Append, Set
 use Rattle.clap.specs.declared.error.kind.ErrorKind.TheVariants.{ArgumentConflict, MissingRequiredArgument, ValueValidation}
 use Rattle.cord_words.specs.declared.request.Request.{Request}
 use Rattle.cord_words.specs.declared.action.Action.{Action}
-use Rattle.cord_words.specs.declared.action.Action.TheVariants.{CheckInput, Check, Show, Cut, Join, Find, Cmp, Edit, Discard, Migrate, Log, Blame, Apply, Commit, Restore}
+use Rattle.cord_words.specs.declared.action.Action.TheVariants.{CheckInput, Check, Show, Cut, Join, Find, Cmp, Edit, Discard, Migrate, Log, Blame, Apply, Commit, Restore, Serve}
 
 -- ---- the words that the program takes
 
@@ -160,6 +160,14 @@ abbrev pub restore_app : App
 restore_app = with_rule (with_rule (with_rule (with_rule (with_rule (new_app (codes "restore")) limit_rule) image_rule)
     revision_rule) file_rule) sources_rule
 
+-- one value or none
+abbrev pub optional_source_rule : Rule
+optional_source_rule = new_rule (codes "SOURCE")
+
+-- `serve [--at-most LOOKS] IMAGE [SOURCE]`
+abbrev pub serve_app : App
+serve_app = with_rule (with_rule (with_rule (new_app (codes "serve")) limit_rule) image_rule) optional_source_rule
+
 -- the program's name, and that it has a version
 abbrev pub titled_app : App
 titled_app = on_top (λ s. record s { has_version = true }) (new_app (codes "cordkit"))
@@ -171,8 +179,8 @@ with_tool program tool = with_subcommand program (with_flags tool).top
 -- the program, as clap is told of it: all its subcommands
 unfoldable pub cordkit_app : App
 cordkit_app = with_tool (with_tool (with_tool (with_tool (with_tool (with_tool (with_tool (with_tool (with_tool (with_tool (with_tool
-    (with_tool (with_tool (with_flags titled_app) check_app) show_app) cut_app) join_app) find_app) cmp_app) edit_app) migrate_app)
-    log_app) blame_app) apply_app) commit_app) restore_app
+    (with_tool (with_tool (with_tool (with_flags titled_app) check_app) show_app) cut_app) join_app) find_app) cmp_app) edit_app) migrate_app)
+    log_app) blame_app) apply_app) commit_app) restore_app) serve_app
 
 -- ---- what was given
 
@@ -298,6 +306,10 @@ Holds given (Restore at_most image revision file sources) = Gives given (codes "
     × (image.now ≡ argument_text rows (codes "IMAGE")) × NamesRevision (first_of (codes "REV") rows) revision
     × (file.now ≡ argument_text rows (codes "FILE"))
     × (map (λ s. s.now) sources.items ≡ argument_texts rows (codes "SOURCE")))
+Holds given (Serve at_most image source) = Gives given (codes "serve") (λ rows.
+    MayReadAs (first_of (codes "LOOKS") rows) at_most
+    × (image.now ≡ argument_text rows (codes "IMAGE"))
+    × (option_map (λ s. s.now) source ≡ first_of (codes "SOURCE") rows))
 
 -- the matches of the program's own arguments
 abbrev pub own_rows : List Text → List Row
@@ -320,7 +332,7 @@ IsOneOf (x ∷ xs) n = (n ≡ x) ⊎ IsOneOf xs n
 abbrev pub subcommand_names : List Text
 subcommand_names = codes "check" ∷ codes "show" ∷ codes "cut" ∷ codes "join" ∷ codes "find"
     ∷ codes "cmp" ∷ codes "edit" ∷ codes "migrate" ∷ codes "log" ∷ codes "blame" ∷ codes "apply"
-    ∷ codes "commit" ∷ codes "restore" ∷ []
+    ∷ codes "commit" ∷ codes "restore" ∷ codes "serve" ∷ []
 
 -- the subcommand that was given, if any, is one of the program's own, and not `help`
 abbrev pub IsKnown : Option (Text × List Row) → Type 0
@@ -353,6 +365,7 @@ pub record NumbersRead (given : Option (Text × List Row)) : Type 0 where
   pub commit : WhereGiven given (codes "commit") (λ rows. IfSome (first_of (codes "LOOKS") rows) IsNumber)
   pub restore : WhereGiven given (codes "restore") (λ rows.
       IfSome (first_of (codes "LOOKS") rows) IsNumber × IfSome (first_of (codes "REV") rows) IsRevisionWord)
+  pub serve : WhereGiven given (codes "serve") (λ rows. IfSome (first_of (codes "LOOKS") rows) IsNumber)
 
 -- `--discard` stands beside no word that is for a session
 abbrev pub DiscardsAlone : Option (Text × List Row) → Type 0

@@ -116,6 +116,13 @@ pub enum Action<'a> {
         file: &'a str,
         sources: Vec<&'a str>,
     },
+    /// Take requests from standard input and answer them, for the session of the image of a file, which has this source
+    /// or none: the image is made where there is none. So many looks may its check take.
+    Serve {
+        at_most: Option<u64>,
+        image: &'a str,
+        source: Option<&'a str>,
+    },
     /// Write the image of the session that a script makes, over files of these lengths: behind the last revision of the
     /// image `onto`, where there is one, whose session has these sources. So many looks may the check of that one take.
     Apply {

@@ -4,7 +4,7 @@ ghost use Rattle.std.specs.Prelude.{◌≡◌, IfOk, false};
 ghost use Rattle.clap.specs.Words.{App, Rule, app_of, new_app, rule_of, with_rule};
 ghost use Rattle.clap.specs.declared.builder.command.Command.TheViews.{out-Command as fields_of};
 ghost use Rattle.cord_words.specs.Words.{count_rule, explain_rule, file_rule, flag_rule, from_rule, image_rule, keep_rule, length_rule, limit_rule};
-ghost use Rattle.cord_words.specs.Words.{old_rule, onto_rule, optional_file_rule, optional_revision_rule, quiet_rule, required_rule, revision_rule};
+ghost use Rattle.cord_words.specs.Words.{old_rule, onto_rule, optional_file_rule, optional_revision_rule, optional_source_rule, quiet_rule, required_rule, revision_rule};
 ghost use Rattle.cord_words.specs.Words.{session_rule, sources_rule, start_rule, with_flags};
 
 use clap::{Arg, ArgAction, Command};
@@ -196,6 +196,14 @@ pub fn optional_file<'a>(alloc: Global) -> Arg<'a>
     ensures local { result.global ≡ false }
 {
     Arg::new(alloc, "FILE").help("The file of the text to begin with")
+}
+
+/// `[SOURCE]`
+pub fn optional_source<'a>(alloc: Global) -> Arg<'a>
+    ensures rule { rule_of result ≡ optional_source_rule }
+    ensures local { result.global ≡ false }
+{
+    Arg::new(alloc, "SOURCE").help("The file that the session was made from, if there is one")
 }
 
 /// `--keep KEYS`

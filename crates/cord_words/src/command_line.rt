@@ -14,7 +14,7 @@ use crate::fault::WordsFault;
 use crate::request::Request;
 use crate::{
     apply, args, blame, check, cmp, commit, cut, edit, find, given, join, log, migrate, restore,
-    show,
+    serve, show,
 };
 use clap::error::ErrorKind;
 use clap::{ArgMatches, Command, Error};
@@ -110,6 +110,7 @@ fn action_of<'a>(
         Some(("apply", given)) => apply::action(alloc, command, given),
         Some(("commit", given)) => commit::action(alloc, command, given),
         Some(("restore", given)) => restore::action(alloc, command, given),
+        Some(("serve", given)) => serve::action(alloc, command, given),
         Some(_) => unreachable!(),
     }
 }
@@ -141,6 +142,7 @@ fn alone<'a>(alloc: Global, name: &str) -> Result<Command<'a>, AllocError> {
         "apply" => apply::command(alloc),
         "commit" => commit::command(alloc),
         "restore" => restore::command(alloc),
+        "serve" => serve::command(alloc),
         _ => Ok(titled(alloc)),
     };
     let path = format!(in alloc; "cordkit {name}")?;
@@ -203,7 +205,8 @@ fn cordkit<'a>(alloc: Global) -> Result<Command<'a>, AllocError>
     let command = add_tool(alloc, command, blame::command(alloc));
     let command = add_tool(alloc, command, apply::command(alloc));
     let command = add_tool(alloc, command, commit::command(alloc));
-    add_tool(alloc, command, restore::command(alloc))
+    let command = add_tool(alloc, command, restore::command(alloc));
+    add_tool(alloc, command, serve::command(alloc))
 }
 
 /// The refusal of words that are no text, with the usage of the program. It is `Memory`, where there was none for it.

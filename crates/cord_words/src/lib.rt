@@ -19,6 +19,7 @@ mod log;
 mod migrate;
 mod request;
 mod restore;
+mod serve;
 mod show;
 
 pub use action::{Action, Lengths};

@@ -9,6 +9,7 @@ use crate::image_file::ImageFile;
 use crate::last_commit::{is_committed_from, keep_committed, tell_other};
 use crate::meter::Meter;
 use crate::opening::{open, opened_sources, told_size};
+use crate::other_journals::refuse_lines;
 use commit_tools::{Commit, CommitFault, run_commit, run_commit_anew};
 use cord_tools::{Status, ToolFault, read_image, read_source};
 use edit_commands::EditFault;
@@ -149,6 +150,7 @@ pub(crate) fn begin<'a>(
     image.give_way();
     refuse_own(rt, words, &image)?;
     refuse_keys(rt, words.image, words.faults)?;
+    refuse_lines(rt, words.image, words.faults)?;
     // What this look tells is what is replaced: a later one may fail.
     let there = image.look();
     image.replace_only(there);
@@ -232,6 +234,7 @@ fn put_and_tell(
     lines: &SourceLines,
 ) -> Result<String, ToolFault> {
     let line = format!(in rt.alloc(); "{commit}\n")?;
+    refuse_lines(rt, words.image, words.faults)?;
     begun.image.put_here()?;
     let image = begun.image.path();
     let is_added = matches!(commit, Commit::Added(_));

@@ -10,6 +10,7 @@ use crate::file_state::FileState;
 use crate::image_file::{ImageFile, Put};
 use crate::journal::Journal;
 use crate::opening::{OpenedSources, opened_sources};
+use crate::other_journals::refuse_lines;
 use crate::session_file::{Beginning, read_beginning, write_beginning};
 use cord_tools::{Status, ToolFault, run_edit};
 use lazy_file::Sources;
@@ -96,6 +97,7 @@ pub(crate) fn begun_image<'a>(
     journal: &Journal<'_>,
     begun: Option<Beginning>,
 ) -> Result<ImageFile<'a>, ToolFault> {
+    refuse_lines(rt, words.image, words.faults)?;
     let mut image = image_of(rt, words)?;
     let there = match begun {
         Some(beginning) => beginning.image,
@@ -264,6 +266,7 @@ pub fn edit<L: Ledger, W>(
     requires many { 2 < blank.parts }
 {
     let mut image = image_of(rt, words)?;
+    refuse_lines(rt, words.image, words.faults)?;
     let lines = lines_of(rt, words)?;
     let put = match words.onto {
         Some(older) => edit_onto::<L>(rt, words, older, &mut image, blank)?,

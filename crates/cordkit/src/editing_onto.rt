@@ -8,10 +8,12 @@ use crate::editing::{
 use crate::faults::STANDARD_INPUT;
 use crate::file_state::{FileState, state_of};
 use crate::image_file::{ImageFile, Put};
-use crate::journal::{Journal, LockedKeys};
+use crate::journal::{Journal, LockedJournal};
+use crate::journal_front::Front;
 use crate::opening::{OpenedSources, open, told_size};
 use crate::session_file::Beginning;
 use cord_tools::{Status, ToolFault, read_image, run_edit_onto};
+use key_journal::header_onto;
 use lazy_file::Sources;
 use std::fs::File;
 use std::sync::ledger::{Blank, Ledger};
@@ -70,9 +72,9 @@ fn image_over<'a>(
     }
 }
 
-/// Puts an image that is whole in its place. Its keys are set aside meanwhile:
-/// they are over the older image, which may be the one whose place it takes.
-fn put_behind(journal: &Journal<'_>, image: &ImageFile<'_>) -> Result<Put, ToolFault> {
+/// Puts an image that is whole in its place. Its journal is set aside meanwhile:
+/// it was begun over the older image, which may be the one whose place it takes.
+pub(crate) fn put_behind(journal: &Journal<'_>, image: &ImageFile<'_>) -> Result<Put, ToolFault> {
     if !image.takes_place() {
         return image.put();
     }
@@ -131,7 +133,7 @@ fn edit_kept<L: Ledger>(
     requires many { 2 < blank.parts }
 {
     let begun = beginning_of(rt, words)?;
-    let locked = LockedKeys::open(rt, keys, begun.map(|b| b.keys), words.faults)?;
+    let locked = LockedJournal::open(rt, keys, begun.map(|b| b.keys), words.faults)?;
     let older = match opened_older::<L>(rt, words, path, blank) {
         Ok(older) => older,
         Err(fault) => {
@@ -145,7 +147,8 @@ fn edit_kept<L: Ledger>(
         bytes,
         mut sources,
     } = older;
-    let journal = Journal::onto(rt, keys, locked, &bytes, &mut sources, words.faults)?;
+    let front = Front::of_keys(rt.alloc(), &header_onto(&mut sources, &bytes)?)?;
+    let journal = Journal::onto(rt, keys, locked, &front, None, words.faults)?;
     let begun = journal.begun_with(begun);
     let put = match image_over(rt, words, &journal, begun, &file, state) {
         Ok(mut image) => {

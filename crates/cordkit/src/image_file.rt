@@ -6,13 +6,13 @@ use crate::faults::Faults;
 use crate::file_state::{FileState, is_named, state_at, state_of};
 use crate::modes::Mode;
 use crate::old_image::{bring_back, keep, would_be_lost};
-use crate::opening::{sync_folder, told};
+use crate::opening::{sync_folder, told, told_size};
 use crate::part_file::{lock_in_turn, make_in_turn, remove_in_turn};
 use crate::side_file::follow;
 use crate::twin::have_same_bytes;
-use cord_tools::{ToolFault, may_replace};
+use cord_tools::{ToolFault, may_replace, read_image};
 use std::fs::File;
-use std::io::{ErrorKind, Read, Write};
+use std::io::{ErrorKind, Read, Seek, SeekFrom, Write};
 use std::{fs, io};
 
 /// The bytes with which an image begins.
@@ -306,6 +306,13 @@ impl<'a> ImageFile<'a> {
         };
     }
 
+    /// The same, of a file that is still so. A second name of it, which a call that failed has left, is taken away first.
+    pub fn replace_still(&mut self, begun: Option<FileState>) {
+        let there = state_at(self.rt, self.path.as_str());
+        let begun = if there == begun { self.look() } else { begun };
+        self.replace_only(begun);
+    }
+
     /// From now on what it takes the place of is kept by another name, where it would be lost.
     pub fn keep_old(&mut self) {
         self.keeps_old = true;
@@ -465,6 +472,24 @@ impl<'a> ImageFile<'a> {
             Ok(Put::InPlace)
         } else {
             Ok(Put::None)
+        }
+    }
+
+    /// The state of the file that was written.
+    pub fn state(&self) -> Option<FileState> {
+        state_of(self.file.as_ref()?)
+    }
+
+    /// What was written, read from the file that it was written to, whatever has its name by now.
+    pub fn read_back(&self) -> Result<Vec<u8>, ToolFault> {
+        let Some(written) = &self.file else {
+            return Err(ToolFault::Read);
+        };
+        let expected = told_size(written);
+        let mut file = written;
+        match file.seek(SeekFrom::Start(0)) {
+            Ok(_) => read_image(self.rt.alloc(), file, expected),
+            Err(error) => Err(self.faults.unread(self.path.as_str(), error)),
         }
     }
 

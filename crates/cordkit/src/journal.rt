@@ -1,97 +1,36 @@
-//! The file of keys.
+//! The journal of a session that is not saved: its keys, or its lines.
 
 use crate::faults::{Faults, Input, STANDARD_INPUT};
 use crate::few_rows::{FewRows, rows_of_terminal};
 use crate::file_state::{FileBirth, birth_of, is_named};
 use crate::hint::hint;
 use crate::image_file::ImageFile;
+use crate::journal_front::{FRONT_OF_KEYS, Front, Standing};
 use crate::modes::OF_KEYS;
 use crate::opening::{sync_folder, told};
+use crate::part_file::pause;
 use crate::saved_before::{is_image_of, is_image_onto};
 use crate::session_file::Beginning;
+use crate::synced_file::SyncedFile;
 use cord_tools::{
     Status, ToolFault, only_look, run_kept, run_kept_onto, run_typed, run_typed_onto,
 };
-use key_journal::{Found, HEADER_SIZE, Kept, find_keys, header_onto, header_over};
+use key_journal::{Kept, header_over};
 use lazy_file::Sources;
+use line_server::split_whole;
 use std::fs::File;
 use std::io::{BufReader, ErrorKind, IsTerminal, Read, StdinLock, Write};
 use std::os::unix::fs::OpenOptionsExt;
-use std::time::{Duration, Instant};
 use std::{fs, io};
 use terminal_keys::TerminalKeys;
 
-/// A key is synced where the last sync is over for so many times
-/// as long as it took, and for so many milliseconds at most.
-const REST_FACTOR: u32 = 16;
-
-const LONGEST_REST_MILLISECONDS: u64 = 1000;
-
-/// A file that is synced as keys come: each one, where they come
-/// no faster than the device syncs them with rests between.
-#[derive(Drop)]
-struct SyncedFile<'a> {
-    rt: &'a HostRuntime,
-    path: &'a str,
-    file: &'a File,
-    faults: &'a Faults,
-    /// When it was last synced, and how long it rests from then on.
-    synced: Option<Instant>,
-    rest: Duration,
-}
-
-impl SyncedFile<'_> {
-    /// Whether it rests. Without a clock it does not.
-    fn rests(&self) -> bool {
-        match &self.synced {
-            Some(synced) => match synced.elapsed(self.rt) {
-                Ok(elapsed) => elapsed < self.rest,
-                Err(_) => false,
-            },
-            None => false,
-        }
-    }
-
-    /// Syncs it. What cannot be synced is kept as long as the system stands.
-    fn sync(&mut self) {
-        let begun = Instant::now(self.rt).ok();
-        let _ = self.file.sync_data();
-        self.synced = Instant::now(self.rt).ok();
-        if let (Some(begun), Some(synced)) = (&begun, &self.synced) {
-            let longest = Duration::from_millis(LONGEST_REST_MILLISECONDS);
-            let rest = synced.duration_since(*begun).saturating_mul(REST_FACTOR);
-            self.rest = if rest < longest { rest } else { longest };
-        }
-    }
-}
-
-impl io::Write for SyncedFile<'_> {
-    fn write(&mut self, bytes: &[u8]) -> io::Result<usize> {
-        let mut file = self.file;
-        let n = match file.write(bytes) {
-            Ok(n) => n,
-            Err(error) => {
-                if error.kind() != ErrorKind::Interrupted {
-                    self.faults.unwritten(self.path, error);
-                }
-                return Err(error);
-            }
-        };
-        if !self.rests() {
-            self.sync();
-        }
-        Ok(n)
-    }
-
-    fn flush(&mut self) -> io::Result<()> {
-        Ok(())
-    }
-}
+/// A lock on a journal that is begun anew is tried so many times.
+const TRIES: usize = 400;
 
 /// Keys that a terminal gives by blocks, each kept before it is taken.
 type TypedKeys<'a> = Kept<TerminalKeys<BufReader<Input<'a, StdinLock<'a>>>>, SyncedFile<'a>>;
 
-/// The file of the keys of a session that is not saved. It has its header, and is locked.
+/// The file of the keys or the lines of a session that is not saved. It has its front, and is locked.
 #[derive(Drop)]
 pub struct Journal<'a> {
     rt: &'a HostRuntime,
@@ -100,17 +39,16 @@ pub struct Journal<'a> {
     /// Its name while it is set aside: nothing wants memory then.
     aside: String,
     file: File,
+    /// So many bytes has its front.
+    front: usize,
     /// What it had when it was opened.
     bytes: Vec<u8>,
 }
 
-/// The bytes with which a file of keys begins.
-const FRONT: &[u8] = b"CORDKEYS";
-
-/// Where frames go. A file that takes them takes no keys.
+/// Where frames and answers go. A file that takes them takes no keys and no lines.
 const STANDARD_OUTPUT: &str = "/dev/stdout";
 
-/// Whether a file is a device, a pipe or a folder, in which no keys are kept.
+/// Whether a file is a device, a pipe or a folder, in which nothing is kept.
 fn is_no_regular(file: &File) -> bool {
     match file.metadata() {
         Ok(metadata) => !metadata.is_file(),
@@ -118,7 +56,7 @@ fn is_no_regular(file: &File) -> bool {
     }
 }
 
-/// Locks a file of keys that was opened. A session that ended
+/// Locks a journal that was opened. A session that ended
 /// meanwhile may have taken it away, so that another one has its name.
 fn lock(rt: &HostRuntime, path: &str, file: &File, faults: &Faults) -> Result<(), ToolFault> {
     if is_no_regular(file) {
@@ -183,10 +121,13 @@ pub fn discard(rt: &HostRuntime, path: &str, faults: &Faults) -> Result<Status, 
     };
     lock(rt, path, &file, faults)?;
     let mut front = Vec::new(rt.alloc());
-    if let Err(error) = file.take(FRONT.len() as u64).read_to_end(&mut front) {
+    if let Err(error) = file
+        .take(FRONT_OF_KEYS.len() as u64)
+        .read_to_end(&mut front)
+    {
         return Err(faults.unread(path, error));
     }
-    if front.as_slice() != FRONT {
+    if front.as_slice() != FRONT_OF_KEYS {
         return Err(ToolFault::OtherKeys);
     }
     match fs::remove_file(rt, path) {
@@ -211,12 +152,12 @@ fn all_of(
     }
 }
 
-/// The name of a file of keys that is set aside while the image of its session takes its place.
+/// The name of a journal that is set aside while the image of its session takes its place.
 fn aside_name(rt: &HostRuntime, path: &str) -> Result<String, ToolFault> {
     Ok(format!(in rt.alloc(); "{path}.saved")?)
 }
 
-/// The file of keys that was set aside at a save, and stays where that did not end. It is locked.
+/// The journal that was set aside at a save, and stays where that did not end. It is locked.
 fn aside_locked(rt: &HostRuntime, path: &str, faults: &Faults) -> Result<Option<File>, ToolFault> {
     let name = aside_name(rt, path)?;
     let mut options = File::options();
@@ -231,30 +172,30 @@ fn aside_locked(rt: &HostRuntime, path: &str, faults: &Faults) -> Result<Option<
     }
 }
 
-/// The file of keys of a session over an image, which is locked before the image is opened; and the one that was set
+/// The journal of a session over an image, which is locked before the image is opened; and the one that was set
 /// aside, if there is one. A session that goes on has that one alone, where its Save did not end.
 #[derive(Drop)]
-pub struct LockedKeys {
+pub struct LockedJournal {
     file: Option<File>,
     aside: Option<File>,
 }
 
-impl LockedKeys {
+impl LockedJournal {
     /// Opens the file, or makes it, and locks it. A session that goes on had this file.
     pub fn open(
         rt: &HostRuntime,
         path: &str,
         had: Option<FileBirth>,
         faults: &Faults,
-    ) -> Result<LockedKeys, ToolFault> {
+    ) -> Result<LockedJournal, ToolFault> {
         let file = match had {
             Some(keys) => match reopen_locked(rt, path, keys, faults) {
-                Err(ToolFault::KeysGone) => return LockedKeys::of_save(rt, path, keys, faults),
+                Err(ToolFault::KeysGone) => return LockedJournal::of_save(rt, path, keys, faults),
                 file => file?,
             },
             None => open_locked(rt, path, faults)?,
         };
-        let mut locked = LockedKeys {
+        let mut locked = LockedJournal {
             file: Some(file),
             aside: None,
         };
@@ -288,9 +229,9 @@ impl LockedKeys {
         path: &str,
         keys: FileBirth,
         faults: &Faults,
-    ) -> Result<LockedKeys, ToolFault> {
+    ) -> Result<LockedJournal, ToolFault> {
         match aside_locked(rt, path, faults)? {
-            Some(file) if birth_of(&file) == Some(keys) => Ok(LockedKeys {
+            Some(file) if birth_of(&file) == Some(keys) => Ok(LockedJournal {
                 file: None,
                 aside: Some(file),
             }),
@@ -314,12 +255,6 @@ impl LockedKeys {
     }
 }
 
-/// Whether a file of keys has none: it ends with a header, or within one.
-fn has_no_key(header: &[u8; HEADER_SIZE], bytes: &[u8]) -> bool {
-    bytes.len() <= HEADER_SIZE
-        && (find_keys(header, bytes) != Found::Other || bytes.starts_with(FRONT))
-}
-
 impl<'a> Journal<'a> {
     /// Opens the file, or makes it, for a session over these sources. A session that goes on had this file.
     pub fn open<S: Sources>(
@@ -329,80 +264,113 @@ impl<'a> Journal<'a> {
         sources: &mut S,
         faults: &'a Faults,
     ) -> Result<Journal<'a>, ToolFault> {
-        let header = header_over(sources)?;
+        let front = Front::of_keys(rt.alloc(), &header_over(sources)?)?;
         let file = match had {
             Some(keys) => reopen_locked(rt, path, keys, faults)?,
             None => open_locked(rt, path, faults)?,
         };
         let bytes = all_of(rt, path, &file, faults)?;
-        Journal::begun(rt, path, file, bytes, &header, faults)
+        Journal::begun(rt, path, file, bytes, &front, faults)
     }
 
-    /// The file that is locked, for a session over an image and these sources. The one that was set aside gets its name
-    /// back, where its keys are over this image and the file has none: the save behind those keys did not end. Where a
-    /// session that goes on has that one alone, and its keys are over another image, its Save did end: it begins anew.
-    pub fn onto<S: Sources>(
+    /// The file that is locked, for a session that goes on from an image, with this front. The one that was set aside
+    /// gets its name back, where it was begun over this image and the file keeps nothing: the save behind it did not
+    /// end. Where a session that goes on has that one alone, and it was begun over another image, its Save did end: it
+    /// begins anew. Lines that were set aside over another image are in this one, and go; but for those of a save whose
+    /// image still has its first name, `part`: they are in none that stands in its place.
+    pub fn onto(
         rt: &'a HostRuntime,
         path: &'a str,
-        locked: LockedKeys,
-        older: &[u8],
-        sources: &mut S,
+        locked: LockedJournal,
+        front: &Front,
+        part: Option<&str>,
         faults: &'a Faults,
     ) -> Result<Journal<'a>, ToolFault> {
-        let header = header_onto(sources, older)?;
-        let LockedKeys { file, aside } = locked;
+        let LockedJournal { file, aside } = locked;
         let bytes = match &file {
             Some(file) => all_of(rt, path, file, faults)?,
             None => Vec::new(rt.alloc()),
         };
+        let mut is_saved = false;
         if let Some(aside) = aside {
             let name = aside_name(rt, path)?;
             let kept = all_of(rt, name.as_str(), &aside, faults)?;
-            if has_no_key(&header, &bytes) && find_keys(&header, &kept) == Found::Keys {
+            if front.keeps_nothing(&bytes) && front.standing(&kept) == Standing::Kept {
                 if let Err(error) = fs::rename(rt, name.as_str(), path) {
                     return Err(faults.unwritten(path, error));
                 }
                 sync_folder(rt, path);
-                return Journal::begun(rt, path, aside, kept, &header, faults);
+                return Journal::begun(rt, path, aside, kept, front, faults);
+            }
+            is_saved = front.is_of_older_lines(&kept);
+            if is_saved && part.is_some_and(|part| fs::metadata(rt, part).is_ok()) {
+                return Err(ToolFault::OtherKeys);
             }
         }
-        match file {
-            Some(file) => Journal::begun(rt, path, file, bytes, &header, faults),
-            None => {
-                let file = open_locked(rt, path, faults)?;
-                let bytes = all_of(rt, path, &file, faults)?;
-                Journal::begun(rt, path, file, bytes, &header, faults)
-            }
+        let journal = match file {
+            Some(file) => Journal::begun(rt, path, file, bytes, front, faults)?,
+            None => Journal::anew(rt, path, front, faults)?,
+        };
+        if is_saved {
+            journal.drop_aside();
         }
+        Ok(journal)
     }
 
-    /// The file that is locked and has these bytes. A header that is torn is written to its end, and the header of a
-    /// session over another text, which took no key, is written anew.
+    /// The file, which is opened or made, and locked, with this front.
+    fn anew(
+        rt: &'a HostRuntime,
+        path: &'a str,
+        front: &Front,
+        faults: &'a Faults,
+    ) -> Result<Journal<'a>, ToolFault> {
+        let file = open_locked(rt, path, faults)?;
+        let bytes = all_of(rt, path, &file, faults)?;
+        Journal::begun(rt, path, file, bytes, front, faults)
+    }
+
+    /// The same, once no other run has it locked: one that looks at it has it for a moment.
+    pub fn anew_in_turn(
+        rt: &'a HostRuntime,
+        path: &'a str,
+        front: &Front,
+        faults: &'a Faults,
+    ) -> Result<Journal<'a>, ToolFault> {
+        for _ in 0..TRIES {
+            match Journal::anew(rt, path, front, faults) {
+                Err(ToolFault::KeysInUse) => pause(rt),
+                journal => return journal,
+            }
+        }
+        Err(ToolFault::KeysInUse)
+    }
+
+    /// The file that is locked and has these bytes. A front that is torn is written to its end, and the front of a
+    /// session over another text, of which nothing is kept, is written anew.
     fn begun(
         rt: &'a HostRuntime,
         path: &'a str,
         file: File,
         bytes: Vec<u8>,
-        header: &[u8; HEADER_SIZE],
+        front: &Front,
         faults: &'a Faults,
     ) -> Result<Journal<'a>, ToolFault> {
         let mut file = file;
         let aside = aside_name(rt, path)?;
-        let there = match find_keys(header, &bytes) {
-            Found::Keys => HEADER_SIZE,
-            Found::Torn => bytes.len(),
-            Found::Other if has_no_key(header, &bytes) => {
+        let there = match front.standing(&bytes) {
+            Standing::Kept => front.len(),
+            Standing::Torn => bytes.len(),
+            Standing::Other if front.keeps_nothing(&bytes) => {
                 if let Err(error) = file.set_len(0) {
                     return Err(faults.unwritten(path, error));
                 }
                 0
             }
-            Found::Other => return Err(ToolFault::OtherKeys),
+            Standing::Other => return Err(ToolFault::OtherKeys),
         };
-        if there < HEADER_SIZE {
-            let rest = header.get(there..).unwrap_or(&[]);
-            if let Err(error) = file.write_all(rest) {
-                // It has no key.
+        if there < front.len() {
+            if let Err(error) = file.write_all(front.behind(there)) {
+                // Nothing is kept in it.
                 let _ = fs::remove_file(rt, path);
                 return Err(faults.unwritten(path, error));
             }
@@ -414,6 +382,7 @@ impl<'a> Journal<'a> {
             path,
             aside,
             file,
+            front: front.len(),
             bytes,
         })
     }
@@ -433,7 +402,42 @@ impl<'a> Journal<'a> {
 
     /// The keys that it had when it was opened.
     fn keys(&self) -> &[u8] {
-        self.bytes.get(HEADER_SIZE..).unwrap_or(&[])
+        self.bytes.get(self.front..).unwrap_or(&[])
+    }
+
+    /// The script that it was when it was opened, without a last line that has no end.
+    pub fn script(&self) -> &[u8] {
+        split_whole(&self.bytes).0
+    }
+
+    /// Cuts off a last line without an end, which a write that was cut short has left.
+    pub fn cut(&self) -> Result<(), ToolFault> {
+        let whole = self.script().len();
+        if whole < self.front || whole == self.bytes.len() {
+            return Ok(());
+        }
+        match self.file.set_len(whole as u64) {
+            Ok(()) => Ok(()),
+            Err(error) => Err(self.faults.unwritten(self.path, error)),
+        }
+    }
+
+    /// Gives back the memory of what it had when it was opened.
+    pub fn forget(&mut self) {
+        self.bytes = Vec::new(self.rt.alloc());
+    }
+
+    /// Whether something is kept in it. One that does not tell how long it is may have something.
+    pub fn keeps_any(&self) -> bool {
+        match self.file.metadata() {
+            Ok(metadata) => metadata.len() > self.front as u64,
+            Err(_) => true,
+        }
+    }
+
+    /// Whether its name leads to it.
+    pub fn is_named(&self) -> bool {
+        is_named(self.rt, self.path, &self.file)
     }
 
     /// Whether a file is the image of its keys, if they make one: a
@@ -460,16 +464,9 @@ impl<'a> Journal<'a> {
         is_image_onto(self.rt, path, older, keys, sources)
     }
 
-    /// Where its keys are written.
-    fn synced(&self) -> SyncedFile<'_> {
-        SyncedFile {
-            rt: self.rt,
-            path: self.path,
-            file: &self.file,
-            faults: self.faults,
-            synced: None,
-            rest: Duration::from_millis(LONGEST_REST_MILLISECONDS),
-        }
+    /// Where its keys or its lines are written.
+    pub fn synced(&self) -> SyncedFile<'_> {
+        SyncedFile::new(self.rt, self.path, &self.file, self.faults)
     }
 
     /// The keys of the terminal, read by blocks and kept.
@@ -546,10 +543,10 @@ impl<'a> Journal<'a> {
         )
     }
 
-    /// Sets it aside, and syncs its folder: the image of its session is to take the place of the one that its keys are
+    /// Sets it aside, and syncs its folder: the image of its session is to take the place of the one that it was begun
     /// over. A file that was set aside before is replaced.
     pub fn set_aside(&self) -> Result<(), ToolFault> {
-        if !is_named(self.rt, self.path, &self.file) {
+        if !self.is_named() {
             return Err(ToolFault::KeysGone);
         }
         match fs::rename(self.rt, self.path, self.aside.as_str()) {
@@ -570,10 +567,15 @@ impl<'a> Journal<'a> {
 
     /// Takes it away behind its Save, for which it was set aside.
     pub fn remove_saved(&self) -> Result<(), ToolFault> {
-        if is_named(self.rt, self.path, &self.file) {
+        if self.is_named() {
             return self.remove();
         }
         self.remove_name(self.aside.as_str())
+    }
+
+    /// Takes away what was set aside, where it is still there. What stays is dropped by the next session.
+    pub fn drop_aside(&self) {
+        let _ = fs::remove_file(self.rt, self.aside.as_str());
     }
 
     /// Takes away what has one of its names.
@@ -587,7 +589,7 @@ impl<'a> Journal<'a> {
     /// Whether its keys make no revision, if there are any. One that cannot be read may have some that do.
     pub fn only_looks(&self) -> bool {
         match fs::read(self.rt, self.path) {
-            Ok(bytes) => only_look(bytes.get(HEADER_SIZE..).unwrap_or(&[])),
+            Ok(bytes) => only_look(bytes.get(self.front..).unwrap_or(&[])),
             Err(_) => false,
         }
     }
@@ -595,6 +597,23 @@ impl<'a> Journal<'a> {
     /// Syncs it, where it stays. What cannot be synced is kept as long as the system stands.
     pub fn sync(&self) {
         let _ = self.file.sync_data();
+    }
+
+    /// Syncs it, and tells where it cannot be.
+    pub fn sync_told(&self) -> Result<(), ToolFault> {
+        match self.file.sync_data() {
+            Ok(()) => Ok(()),
+            Err(error) => Err(self.faults.unwritten(self.path, error)),
+        }
+    }
+
+    /// Leaves it behind a run: it is synced, and goes where nothing is kept in it.
+    pub fn close(&self) {
+        self.sync();
+        if !self.keeps_any() && self.is_named() {
+            // What stays keeps nothing.
+            let _ = fs::remove_file(self.rt, self.path);
+        }
     }
 
     /// Takes it away.

@@ -14,19 +14,24 @@ mod going_on;
 mod hint;
 mod image_file;
 mod journal;
+mod journal_front;
 mod last_commit;
 mod meter;
 mod modes;
 mod old_image;
 mod opening;
+mod other_journals;
 mod part_file;
 mod restoring;
 mod revision_words;
 mod saved_before;
+mod saving_served;
 mod scripts;
+mod serving;
 mod session_file;
 mod side_file;
 mod standard_streams;
+mod synced_file;
 mod text_file;
 mod twin;
 
@@ -47,6 +52,7 @@ use crate::opening::{
 use crate::restoring::{Restoring, restore};
 use crate::revision_words::{wanted, with_last};
 use crate::scripts::{lens_of, read_script, refuse_script, write_log};
+use crate::serving::{Serving, serve};
 use crate::standard_streams::StandardStreams;
 use cord_explanations::{ShownName, explained};
 use cord_tools::{
@@ -511,7 +517,7 @@ fn run_session<L: Ledger, W: io::Write>(
     }
 }
 
-/// Commits a file, or restores it, or does what else the words ask for over a session.
+/// Commits a file, or restores it, or serves a session, or does what else the words ask for over one.
 fn run_states<L: Ledger, W: io::Write>(
     rt: &HostRuntime,
     action: &Action<'_>,
@@ -556,6 +562,19 @@ fn run_states<L: Ledger, W: io::Write>(
                 faults: answer.faults(),
             };
             restore::<L>(rt, words, meter, blank)
+        }
+        Action::Serve {
+            at_most,
+            image,
+            source,
+        } => {
+            let words = Serving {
+                at_most: *at_most,
+                image,
+                source: *source,
+                faults: answer.faults(),
+            };
+            serve::<L, W>(rt, words, answer, meter, blank)
         }
         _ => run_session::<L, W>(rt, action, answer, meter, blank),
     }
@@ -608,6 +627,7 @@ fn run<L: Ledger, W: io::Write>(
         | Action::Discard { .. }
         | Action::Commit { .. }
         | Action::Restore { .. }
+        | Action::Serve { .. }
         | Action::Apply { .. } => { run_states::<L, W>(rt, action, answer, meter, blank) }
     }
 }

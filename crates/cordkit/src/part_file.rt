@@ -25,7 +25,7 @@ fn is_busy(error: &io::Error) -> bool {
 }
 
 /// Lets other runs go on.
-fn pause(rt: &HostRuntime) {
+pub fn pause(rt: &HostRuntime) {
     thread::sleep(rt, Duration::from_millis(PAUSE_MILLISECONDS));
 }
 

@@ -13,7 +13,11 @@ use std::io;
 use work_progress::{Progress, Untold};
 
 /// A session with sources of these lengths, and no revisions.
-fn begun(alloc: Global, lens: &[u64]) -> Result<Session, EditFault>
+///
+/// # Errors
+///
+/// That of the first source that is refused.
+pub fn begun_alone(alloc: Global, lens: &[u64]) -> Result<Session, EditFault>
     ensures made { IfOk result (λ session. session ≡ new_session lens.now) }
     ensures added { OnOk result (MayBeAdded lens.now) }
     ensures refused { IfErr result (AreRefused lens.now) }
@@ -36,7 +40,7 @@ fn made<P: Progress>(
     ensures fault { IfErr result (MakesNone lens.now script.now) }
 {
     says_the_script();
-    let mut session = match begun(alloc, lens) {
+    let mut session = match begun_alone(alloc, lens) {
         Ok(session) => session,
         Err(fault) => return Err(ApplyFault::Source(fault)),
     };

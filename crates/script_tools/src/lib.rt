@@ -10,7 +10,7 @@ mod onto;
 mod shown;
 mod wanted;
 
-pub use applying::{run_apply, run_apply_told};
+pub use applying::{begun_alone, run_apply, run_apply_told};
 pub use blaming::{run_blame, run_blame_told};
 pub use fault::{ApplyFault, BlameFault, LogFault, OntoFault};
 pub use law::{
@@ -19,6 +19,6 @@ pub use law::{
     writes_what_needs_no_read,
 };
 pub use logging::{run_log, run_log_told};
-pub use onto::run_apply_onto;
+pub use onto::{begun_onto, run_apply_onto};
 pub use shown::{BRIEF_LEN, LogTexts};
 pub use wanted::BytesOfText;

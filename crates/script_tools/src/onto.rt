@@ -26,8 +26,13 @@ fn begun_over(alloc: Global, image: &Checked) -> Result<Session, OntoFault>
     }
 }
 
-/// The session of an image that is checked with these sources. The image's bytes are gone then.
-fn begun_onto<S: Sources, P: Progress>(
+/// The session of an image, once that is checked with these sources, by so many looks at nodes at most, if there is a
+/// limit. The image's bytes are given back then.
+///
+/// # Errors
+///
+/// `Check`, with the fault of an image that is not accepted; `TakeUp`, where no session goes on from it.
+pub fn begun_onto<S: Sources, P: Progress>(
     alloc: Global,
     image: Vec<u8>,
     sources: &mut S,

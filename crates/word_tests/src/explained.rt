@@ -204,6 +204,45 @@ fn codes_of_a_commit_are_explained(rt: HostRuntime) -> Result<(), Fail> {
 }
 
 #[test]
+fn codes_of_a_session_that_is_served_are_explained(rt: HostRuntime) -> Result<(), Fail> {
+    let serve = || Action::Serve {
+        at_most: None,
+        image: "missing/a.cord",
+        source: Some("a.txt"),
+    };
+    assert_explained(
+        &rt,
+        &[
+            (
+                serve(),
+                "C4(1)",
+                "C4(1): node 1 of missing/a.cord names one that is not earlier, or a source that is not there",
+            ),
+            (
+                serve(),
+                "E6",
+                "E6: missing/a.cord would make more than 16,777,216 rows",
+            ),
+            (
+                serve(),
+                "E1(3)",
+                "E1(3): line 3 of missing/a.cord.lines names a revision that is not there",
+            ),
+            (
+                serve(),
+                "J1",
+                "J1: missing/a.cord.lines has the lines of another image or file, or something else",
+            ),
+            (
+                serve(),
+                "J2",
+                "J2: a session keeps its keys in missing/a.cord.keys, and has not saved them",
+            ),
+        ],
+    )
+}
+
+#[test]
 fn files_that_fail_are_explained(rt: HostRuntime) -> Result<(), Fail> {
     let rows = [
         (

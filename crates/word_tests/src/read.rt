@@ -167,6 +167,14 @@ fn words_of_scripts_and_commits_are_read(rt: HostRuntime) -> Result<(), Fail> {
                 "cordkit restore --at-most=7 a 3 b c d",
                 r#"Restore { at_most: Some(7), image: "a", revision: Some(3), file: "b", sources: ["c", "d"] }"#,
             ),
+            (
+                "cordkit serve a",
+                r#"Serve { at_most: None, image: "a", source: None }"#,
+            ),
+            (
+                "cordkit serve a --at-most=7 b",
+                r#"Serve { at_most: Some(7), image: "a", source: Some("b") }"#,
+            ),
         ],
     )
 }

@@ -54,3 +54,23 @@ returns-in-Some-restore-default-clause-kind c =
     let arm = c.in-Some-restore-default in
     let given = given_as c.args.matches.now arm.field-0-0.now (codes "restore") (rows_of (found_of arm.given.now)) arm.is-restore arm.ensures.name arm.ensures.rows in
     subst (λ o. IfErr c.action-in-Some-restore-default.result (FailsAs (own_kinds o))) given c.action-in-Some-restore-default.ensures.kind
+
+pub returns-in-Some-serve-default-clause-holds : goal.returns-in-Some-serve-default-clause-holds
+returns-in-Some-serve-default-clause-holds c =
+    let arm = c.in-Some-serve-default in
+    let given = given_as c.args.matches.now arm.field-0-0.now (codes "serve") (rows_of (found_of arm.given.now)) arm.is-serve arm.ensures.name arm.ensures.rows in
+    subst (λ o. IfOk c.action-in-Some-serve-default.result (Holds o)) given c.action-in-Some-serve-default.ensures.holds
+
+pub returns-in-Some-serve-default-clause-only_memory :
+    goal.returns-in-Some-serve-default-clause-only_memory
+returns-in-Some-serve-default-clause-only_memory c =
+    let arm = c.in-Some-serve-default in
+    let given = given_as c.args.matches.now arm.field-0-0.now (codes "serve") (rows_of (found_of arm.given.now)) arm.is-serve arm.ensures.name arm.ensures.rows in
+    subst (λ o. IfErr c.action-in-Some-serve-default.result (λ f. NumbersRead o → DiscardsAlone o → LimitsACheck o → f ≡ Memory)) given
+    (IfErr-weaker c.action-in-Some-serve-default.result _ _ (λ f h read alone limits. h read) c.action-in-Some-serve-default.ensures.only_memory)
+
+pub returns-in-Some-serve-default-clause-kind : goal.returns-in-Some-serve-default-clause-kind
+returns-in-Some-serve-default-clause-kind c =
+    let arm = c.in-Some-serve-default in
+    let given = given_as c.args.matches.now arm.field-0-0.now (codes "serve") (rows_of (found_of arm.given.now)) arm.is-serve arm.ensures.name arm.ensures.rows in
+    subst (λ o. IfErr c.action-in-Some-serve-default.result (FailsAs (own_kinds o))) given c.action-in-Some-serve-default.ensures.kind

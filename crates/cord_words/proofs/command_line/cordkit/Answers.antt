@@ -17,4 +17,5 @@ returns c =
     let ten = c.add_tool-command-10.ensures _ _ nine c.command-10.ensures.app in
     let eleven = c.add_tool-command-11.ensures _ _ ten c.command-11.ensures.app in
     let twelve = c.add_tool-command-12.ensures _ _ eleven c.command-12.ensures.app in
-    c.add_tool.ensures _ _ twelve c.command-13.ensures.app
+    let thirteen = c.add_tool-command-13.ensures _ _ twelve c.command-13.ensures.app in
+    c.add_tool.ensures _ _ thirteen c.command-14.ensures.app

@@ -2,7 +2,7 @@ use Rattle.std.proofs.Common.{ℕ, ap, arith}
 use Rattle.std.proofs.lemmas.Result.{err_from_is_err_and}
 use Rattle.edit_commands.specs.Session.{SessionValue}
 use Rattle.script_tools.proofs.RefusedSources.{first_refused}
-use Rattle.script_tools.proofs.applying.begun.Goals as goal
+use Rattle.script_tools.proofs.applying.begun_alone.Goals as goal
 
 pub returns-in_err-add_source-clause-refused : goal.returns-in_err-add_source-clause-refused
 returns-in_err-add_source-clause-refused c =

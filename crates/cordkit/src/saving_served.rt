@@ -1,0 +1,98 @@
+//! A session that is served, saved: it goes on over its new image.
+
+use crate::digests::SourceLines;
+use crate::editing_onto::put_behind;
+use crate::image_file::{ImageFile, Put};
+use crate::journal::Journal;
+use crate::journal_front::Front;
+use crate::opening::open;
+use crate::serving::{Place, Served, Serving, image_at};
+use cord_tools::ToolFault;
+use key_journal::header_onto;
+use lazy_file::Sources;
+use session_image::write;
+
+/// What became of the image of a session that goes on.
+#[derive(Drop)]
+pub enum Saved {
+    /// It is in its place, and the journal is begun anew over it.
+    InPlace,
+    /// Something else stands there. The image has this name, and the journal stays.
+    Beside(String),
+}
+
+/// Puts an image that is whole in its place. The journal is set aside meanwhile, where its name leads to it.
+fn put_image(journal: &Journal<'_>, image: &ImageFile<'_>) -> Result<Put, ToolFault> {
+    if journal.is_named() {
+        put_behind(journal, image)
+    } else {
+        image.put()
+    }
+}
+
+/// Writes the image of a session, which is to take the place of the one that it goes on from, and puts it there, or
+/// beside what stands there by now.
+fn write_and_put<S: Sources + Drop>(
+    served: &Served<'_, S>,
+    image: &mut ImageFile<'_>,
+) -> Result<Put, ToolFault> {
+    let put = match write(&served.session, &mut *image) {
+        Ok(()) => put_image(&served.journal, image),
+        Err(_) => Err(image.cause(ToolFault::Write)),
+    };
+    if put.is_err() {
+        image.drop_part();
+    }
+    put
+}
+
+/// Begins the journal anew over the image that was saved, and takes the older one away, which is set aside till then.
+fn begin_anew<'a, S: Sources + Drop>(
+    rt: &'a HostRuntime,
+    words: Serving<'a>,
+    place: Place<'a>,
+    served: &mut Served<'a, S>,
+    image: &ImageFile<'_>,
+) -> Result<(), ToolFault> {
+    let bytes = image.read_back()?;
+    let header = header_onto(&mut served.sources, &bytes)?;
+    let front = Front::of_lines(rt.alloc(), &header)?;
+    if served.journal.is_named() {
+        served.journal.set_aside()?;
+    }
+    let mut journal = Journal::anew_in_turn(rt, place.lines, &front, words.faults)?;
+    journal.sync_told()?;
+    journal.forget();
+    served.journal.drop_aside();
+    served.journal = journal;
+    served.state = image.state();
+    Ok(())
+}
+
+/// Saves a session, which goes on: whole or not at all. What was kept of it is in the image then.
+///
+/// # Errors
+///
+/// `Write`, where it cannot be saved: the image is as it was, and the journal keeps what it kept; or where no journal can
+/// be begun behind it: the image has all that was kept. `Read` and `Memory`.
+pub fn save<'a, S: Sources + Drop>(
+    rt: &'a HostRuntime,
+    words: Serving<'a>,
+    place: Place<'a>,
+    digests: &SourceLines,
+    served: &mut Served<'a, S>,
+) -> Result<Saved, ToolFault> {
+    let mut image = image_at(rt, words, place)?;
+    image.replace_still(served.state);
+    if let Ok(older) = open(rt, place.image) {
+        image.keep_whole(&older)?;
+    }
+    match write_and_put(served, &mut image)? {
+        Put::Beside(name) => Ok(Saved::Beside(name)),
+        Put::None | Put::InPlace | Put::Over(_) | Put::Before => {
+            digests.keep_beside(rt, place.image);
+            begin_anew(rt, words, place, served, &image)?;
+            Ok(Saved::InPlace)
+        }
+    }
+}
