@@ -534,7 +534,7 @@ insert 0 0 \"abc\""
         try "while lines are kept: $words" "$words" key_save 1 '' 'refused J2\n'
     done
     try 'and in words' 'commit --explain served abc' '' 1 '' 'refused J2\nJ2: cordkit serve keeps the lines of a session in served.lines, and has not saved them\n'
-    is 'nothing else is made' "$(echo served*)" 'served served.lines'
+    is 'and a second name of the image' "$(echo served*) $(stat -c %i served | grep -cFx -- "$(stat -c %i served.lines.over)")" 'served served.lines served.lines.over 1'
     printf 'insert 1 0 "' >> served.lines
     printf 'last\ninsert 1 3 "d"\nlast' > requests
     try 'a line that was cut, and a request that is' 'serve served' requests 0 '1 3\n2 4\n' ''
@@ -555,8 +555,13 @@ insert 1 3 "d"'
     is 'is written to its end' "$(cat served_anew.lines)" "# cordkit lines $(lines_over served_anew)
 new"
     mv served_anew.lines served.lines
+    rm served_anew.lines.over
     try 'lines of another image' 'serve --explain served' requests 1 '' \
         'refused J1\nJ1: served.lines has the lines of another image or file, or something else\n'
+    cp served served.lines.over
+    try 'whose image has another name' 'serve --explain served' requests 1 '' \
+        'refused J1\nJ1: served.lines has the lines of another image, which is kept as served.lines.over, or of another file\n'
+    rm served.lines.over
     is 'stay' "$(tail -n +2 served.lines)" new
     { head -n 1 served.lines | head -c 16 && lines_over served && printf '\ninsert 3 0 "x"\nback 9\n'; } > further
     mv further served.lines
@@ -568,7 +573,7 @@ new"
     sed -i '$d' served.lines.saved
     printf 'last\n' > requests
     try 'are taken up where the image is the older one' 'serve served' requests 0 '4 6\n' ''
-    is 'by their name' "$(echo served.*)" served.lines
+    is 'by their name' "$(echo served.*)" 'served.lines served.lines.over'
     mv served.lines served.lines.saved
     "$program" apply --onto served served.lines.saved > further
     mv further served

@@ -3,7 +3,8 @@
 docs/SERVE.md and docs/SCRIPTS.md alone: commands of all kinds, in every way in which they may be written, lines that are refused, questions,
 `sync` and `save`, one by one or many at once. At random places the program is killed by kill -9, also while it saves, and begun again by the same
 command: each line that was answered is there, and of the others that it was given only the next ones; of one that was given alone at most that
-one. Sometimes another image is put in the place of IMAGE: then `save` writes its own beside it, and the session goes on. Sometimes the run ends, and
+one. Sometimes another image is put in the place of IMAGE: then `save` writes its own beside it, and the session goes on over that; or, where the run
+is killed first, what is kept goes on from the second name of the image that was there. Sometimes the run ends, and
 what is kept is made again by `apply --onto`, as docs/SERVE.md says it. In the end the image has each text, and the second checker accepts it.
 
 Usage: tests/random_served.py [RUNS [PROGRAM [FIRST]]]; FIRST is the number of the first run. The last line is 'N passed, M failed'.
@@ -233,14 +234,17 @@ class Run:
             self.give([b"save"])
             self.want(b"save", answer_to(self.session, b"save", []))
 
-    def save_beside(self):
-        """Puts another image in the place of the one that is there, and has the session saved beside it."""
-        with open(self.room.image, "rb") as file:
-            own = file.read()
+    def put_other(self):
+        """Puts an image without a text in the place of the one that is there, and gives its bytes."""
         other = self.room.apply(b"new\n")[1]
         with open(f"{self.room.image}.other", "wb") as file:
             file.write(other)
         os.replace(f"{self.room.image}.other", self.room.image)
+        return other
+
+    def save_beside(self):
+        """Puts another image in the place of the one that is there, has the session saved beside it, and goes on over that."""
+        other = self.put_other()
         told = self.ask(b"save")
         if told == answer_to(self.session, b"save", []) + b"\n" and not self.saved_fault(self.room.image):
             # The other image is just that of the session.
@@ -248,17 +252,34 @@ class Run:
             return
         if not told.startswith(b'beside "') or not told.endswith(b'"\n'):
             raise Differs(f"a save where another image is was answered {told!r}, {self.ended() if not told else ''}")
-        name = ESCAPE.sub(unescaped, told[len(b'beside "') : -2])
-        self.give([b"last"])
-        self.want(b"last", last_of(self.session))
-        if self.saved_fault(name.decode()) or self.read(self.room.image) != other:
-            raise Differs(f"the image beside: {self.saved_fault(name.decode())}, or the other one was changed")
-        os.remove(name)
-        with open(f"{self.room.image}.own", "wb") as file:
-            file.write(own)
-        os.replace(f"{self.room.image}.own", self.room.image)
-        self.kill()
+        name = ESCAPE.sub(unescaped, told[len(b'beside "') : -2]).decode()
+        if self.saved_fault(name) or self.read(self.room.image) != other:
+            raise Differs(f"the image beside: {self.saved_fault(name)}, or the other one was changed")
+        left = [ending for ending in (".lines", ".lines.saved", ".lines.over") if os.path.exists(self.room.image + ending)]
+        if left or self.read(name) != self.read(f"{name}.lines.over"):
+            raise Differs(f"{left} is left, or the image beside has no second name")
+        self.room.image = name
         self.counts["beside"] += 1
+
+    def replaced(self):
+        """Puts another image in the place of the one that is there behind a kill. The lines go on from that one's second name."""
+        self.kill()
+        lines, over = f"{self.room.image}.lines", f"{self.room.image}.lines.over"
+        kept = self.read(lines).split(b"\n")[1:-1]
+        own = self.read(self.room.image)
+        if self.read(over) != own:
+            raise Differs("the second name is of another image")
+        if kept and self.put_other() != own:
+            self.start()
+            status, said = self.ended()
+            if status != 1 or said != b"refused J1\n":
+                raise Differs(f"lines of another image: status {status}, {said!r}")
+            status, data, said = self.room.run("apply", "--onto", over, lines)
+            fault = image_fault(self.looks, data, self.session.texts, self.session.commands)
+            if status or said or fault:
+                raise Differs(f"what is kept: status {status}, {said!r}, {fault}")
+            os.replace(over, self.room.image)
+            self.counts["replaced"] += 1
         self.begin_again(len(self.session.texts), len(self.session.texts))
 
     def read(self, name):
@@ -295,7 +316,8 @@ class Run:
         self.give([b"save", b"quit"])
         self.want(b"save", answer_to(self.session, b"save", []))
         status, said = self.ended()
-        there = sorted(name for name in os.listdir(self.room.folder) if name.startswith("image.") and name != "image.sources")
+        own = os.path.basename(self.room.image) + "."
+        there = sorted(name for name in os.listdir(self.room.folder) if name.startswith(own) and name != f"{own}sources")
         if status or said or there:
             raise Differs(f"quit: status {status}, {said!r}, {there}")
         fault = self.saved_fault(self.room.image)
@@ -305,7 +327,7 @@ class Run:
 
     def go(self):
         for _ in range(self.chance.choice([5, 20, 60])):
-            step = self.chance.choices([self.take_group, self.save, self.save_beside, self.recover_by_hand], [90, 6, 2, 2])[0]
+            step = self.chance.choices([self.take_group, self.save, self.save_beside, self.replaced, self.recover_by_hand], [88, 6, 2, 2, 2])[0]
             step()
             if sum(map(len, self.session.texts)) > MOST_TEXTS:
                 break

@@ -375,7 +375,12 @@ fn no_image<R: Files + AllocGlobal>(rt: &R, image: &str) -> Option<Sentence> {
 /// Which lines are of another session.
 fn other_lines<R: Files + AllocGlobal>(rt: &R, image: &str) -> Option<Sentence> {
     let lines = format!(in rt.alloc(); "{image}.lines").ok()?;
-    let text = "% has the lines of another image or file, or something else";
+    let over = format!(in rt.alloc(); "{lines}.over").ok()?;
+    let text = if len(rt, &over).is_some() {
+        "% has the lines of another image, which is kept as %.over, or of another file"
+    } else {
+        "% has the lines of another image or file, or something else"
+    };
     Sentence::new(rt.alloc(), text, &lines, "")
 }
 

@@ -607,13 +607,17 @@ impl<'a> Journal<'a> {
         }
     }
 
-    /// Leaves it behind a run: it is synced, and goes where nothing is kept in it.
-    pub fn close(&self) {
+    /// Leaves it behind a run: it is synced, and goes where nothing is kept in it. Answers whether nothing is.
+    pub fn close(&self) -> bool {
         self.sync();
-        if !self.keeps_any() && self.is_named() {
+        if self.keeps_any() {
+            return false;
+        }
+        if self.is_named() {
             // What stays keeps nothing.
             let _ = fs::remove_file(self.rt, self.path);
         }
+        true
     }
 
     /// Takes it away.

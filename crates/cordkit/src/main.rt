@@ -16,6 +16,7 @@ mod image_file;
 mod journal;
 mod journal_front;
 mod last_commit;
+mod lines_over;
 mod meter;
 mod modes;
 mod old_image;

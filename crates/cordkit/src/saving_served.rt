@@ -2,9 +2,11 @@
 
 use crate::digests::SourceLines;
 use crate::editing_onto::put_behind;
+use crate::file_state::FileState;
 use crate::image_file::{ImageFile, Put};
 use crate::journal::Journal;
 use crate::journal_front::Front;
+use crate::lines_over::keep_over;
 use crate::opening::open;
 use crate::serving::{Place, Served, Serving, image_at};
 use cord_tools::ToolFault;
@@ -12,13 +14,22 @@ use key_journal::header_onto;
 use lazy_file::Sources;
 use session_image::write;
 
+/// An image that stands beside what took its place.
+#[derive(Drop)]
+pub struct Beside {
+    pub image: String,
+    /// What lines begin with that go on from it.
+    pub front: Front,
+    pub state: Option<FileState>,
+}
+
 /// What became of the image of a session that goes on.
 #[derive(Drop)]
 pub enum Saved {
     /// It is in its place, and the journal is begun anew over it.
     InPlace,
-    /// Something else stands there. The image has this name, and the journal stays.
-    Beside(String),
+    /// Something else stands there. The journal stays till the session goes on over its image.
+    Beside(Beside),
 }
 
 /// Puts an image that is whole in its place. The journal is set aside meanwhile, where its name leads to it.
@@ -46,6 +57,17 @@ fn write_and_put<S: Sources + Drop>(
     put
 }
 
+/// What lines begin with that go on from the image that was written.
+fn front_over<S: Sources>(
+    rt: &HostRuntime,
+    sources: &mut S,
+    image: &ImageFile<'_>,
+) -> Result<Front, ToolFault> {
+    let bytes = image.read_back()?;
+    let header = header_onto(sources, &bytes)?;
+    Ok(Front::of_lines(rt.alloc(), &header)?)
+}
+
 /// Begins the journal anew over the image that was saved, and takes the older one away, which is set aside till then.
 fn begin_anew<'a, S: Sources + Drop>(
     rt: &'a HostRuntime,
@@ -54,9 +76,7 @@ fn begin_anew<'a, S: Sources + Drop>(
     served: &mut Served<'a, S>,
     image: &ImageFile<'_>,
 ) -> Result<(), ToolFault> {
-    let bytes = image.read_back()?;
-    let header = header_onto(&mut served.sources, &bytes)?;
-    let front = Front::of_lines(rt.alloc(), &header)?;
+    let front = front_over(rt, &mut served.sources, image)?;
     if served.journal.is_named() {
         served.journal.set_aside()?;
     }
@@ -65,7 +85,7 @@ fn begin_anew<'a, S: Sources + Drop>(
     journal.forget();
     served.journal.drop_aside();
     served.journal = journal;
-    served.state = image.state();
+    served.state = keep_over(rt, place, image.state());
     Ok(())
 }
 
@@ -88,7 +108,11 @@ pub fn save<'a, S: Sources + Drop>(
         image.keep_whole(&older)?;
     }
     match write_and_put(served, &mut image)? {
-        Put::Beside(name) => Ok(Saved::Beside(name)),
+        Put::Beside(name) => Ok(Saved::Beside(Beside {
+            front: front_over(rt, &mut served.sources, &image)?,
+            image: name,
+            state: image.state(),
+        })),
         Put::None | Put::InPlace | Put::Over(_) | Put::Before => {
             digests.keep_beside(rt, place.image);
             begin_anew(rt, words, place, served, &image)?;

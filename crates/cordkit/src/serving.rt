@@ -10,10 +10,11 @@ use crate::file_state::{FileState, state_of};
 use crate::image_file::ImageFile;
 use crate::journal::{Journal, LockedJournal};
 use crate::journal_front::Front;
+use crate::lines_over::{drop_over, keep_over};
 use crate::meter::Meter;
 use crate::opening::{OpenedSources, open, told, told_size};
 use crate::other_journals::{place_of, refuse_keys};
-use crate::saving_served::{Saved, save};
+use crate::saving_served::{Beside, Saved, save};
 use crate::scripts::{lens_of, refuse_script};
 use cord_tools::{Status, ToolFault, read_image};
 use edit_commands::Session;
@@ -75,6 +76,24 @@ pub struct Served<'a, S> {
     pub journal: Journal<'a>,
     /// The image that it goes on from, in its state when it was read or saved.
     pub state: Option<FileState>,
+}
+
+/// A session whose image stands beside what took its place, before it goes on over that image.
+#[derive(Drop)]
+struct Moved<S> {
+    session: Session,
+    sources: S,
+    beside: Beside,
+    /// The journal that it had.
+    lines: String,
+}
+
+/// What some requests leave.
+#[derive(Drop)]
+enum Left<'a, S> {
+    On(Served<'a, S>),
+    Moved(Moved<S>),
+    Nothing,
 }
 
 /// What ends a run of requests, and is answered by the program.
@@ -278,22 +297,39 @@ fn answer_sync<S: Sources + Drop>(
     tell(rt, words, told.as_bytes())
 }
 
-/// Saves the session, and tells what became of its image.
+/// Saves the session, and tells that. Where something else has the place of its image, it is to go on beside that.
 fn answer_save<'a, S: Sources + Drop>(
     rt: &'a HostRuntime,
     words: Serving<'a>,
     place: Place<'a>,
     digests: &SourceLines,
-    served: &mut Served<'a, S>,
-) -> Result<(), ToolFault> {
+    served: Served<'a, S>,
+) -> Result<Left<'a, S>, ToolFault> {
     let told = last_told(rt.alloc(), "saved", &served.session)?;
-    match save(rt, words, place, digests, served)? {
-        Saved::InPlace => tell(rt, words, told.as_bytes()),
-        Saved::Beside(name) => tell(rt, words, &beside_told(rt.alloc(), &name)?),
+    let lines = String::from_str(rt.alloc(), place.lines)?;
+    let mut served = served;
+    match save(rt, words, place, digests, &mut served)? {
+        Saved::InPlace => {
+            tell(rt, words, told.as_bytes())?;
+            Ok(Left::On(served))
+        }
+        Saved::Beside(beside) => {
+            let Served {
+                session,
+                sources,
+                ..
+            } = served;
+            Ok(Left::Moved(Moved {
+                session,
+                sources,
+                beside,
+                lines,
+            }))
+        }
     }
 }
 
-/// Takes requests up to one that the program answers, and answers that. Tells whether the session goes on.
+/// Takes requests up to one that the program answers, and answers that.
 fn serve_some<'a, S: Sources + Drop>(
     rt: &'a HostRuntime,
     words: Serving<'a>,
@@ -302,7 +338,7 @@ fn serve_some<'a, S: Sources + Drop>(
     served: Served<'a, S>,
     requests: &mut Requests<'_>,
     room: &mut Room,
-) -> Result<Option<Served<'a, S>>, ToolFault> {
+) -> Result<Left<'a, S>, ToolFault> {
     let Served {
         session,
         sources,
@@ -314,25 +350,101 @@ fn serve_some<'a, S: Sources + Drop>(
     journal.sync();
     let left = left?;
     let (session, sources) = speaking.into_parts();
-    let mut served = Served {
+    let served = Served {
         session,
         sources,
         journal,
         state,
     };
     match left {
-        Leaving::Sync => answer_sync(rt, words, &served)?,
-        Leaving::Save => answer_save(rt, words, place, digests, &mut served)?,
+        Leaving::Sync => {
+            answer_sync(rt, words, &served)?;
+            Ok(Left::On(served))
+        }
+        Leaving::Save => answer_save(rt, words, place, digests, served),
         Leaving::Quit => {
-            served.journal.close();
-            return Ok(None);
+            if served.journal.close() {
+                drop_over(rt, place.lines);
+            }
+            Ok(Left::Nothing)
         }
     }
-    Ok(Some(served))
+}
+
+/// Takes requests, to their end, or until the session is to go on over another image.
+fn serve_all<'a, S: Sources + Drop>(
+    rt: &'a HostRuntime,
+    words: Serving<'a>,
+    place: Place<'a>,
+    digests: &SourceLines,
+    served: Served<'a, S>,
+    requests: &mut Requests<'_>,
+    room: &mut Room,
+) -> Result<Option<Moved<S>>, ToolFault> {
+    let mut served = served;
+    for _ in 0..u64::MAX {
+        match serve_some(
+            rt,
+            words,
+            place,
+            digests,
+            served,
+            &mut *requests,
+            &mut *room,
+        )? {
+            Left::On(left) => served = left,
+            Left::Moved(moved) => return Ok(Some(moved)),
+            Left::Nothing => return Ok(None),
+        }
+    }
+    Err(ToolFault::Read)
+}
+
+/// Has a session go on over the image that it wrote beside what took its image's place: its journal is begun anew beside
+/// that, the older one goes, and that is told. Then it takes requests.
+fn serve_beside<S: Sources + Drop>(
+    rt: &HostRuntime,
+    words: Serving<'_>,
+    digests: &SourceLines,
+    moved: Moved<S>,
+    requests: &mut Requests<'_>,
+    room: &mut Room,
+) -> Result<Option<Moved<S>>, ToolFault> {
+    let Moved {
+        session,
+        sources,
+        beside,
+        lines: older,
+    } = moved;
+    let Beside {
+        image,
+        front,
+        state,
+    } = beside;
+    let lines = format!(in rt.alloc(); "{image}.lines")?;
+    let told = beside_told(rt.alloc(), &image)?;
+    let place = Place {
+        image: &image,
+        lines: &lines,
+    };
+    let journal = Journal::anew_in_turn(rt, place.lines, &front, words.faults)?;
+    journal.sync_told()?;
+    let state = keep_over(rt, place, state);
+    // What stays is over another image than the one that is there.
+    let _ = fs::remove_file(rt, older.as_str());
+    drop_over(rt, &older);
+    tell(rt, words, &told)?;
+    let served = Served {
+        session,
+        sources,
+        journal,
+        state,
+    };
+    serve_all(rt, words, place, digests, served, requests, room)
 }
 
 /// Takes requests from standard input, to their end.
-fn serve_all<'a, S: Sources + Drop>(
+fn serve_input<'a, S: Sources + Drop>(
     rt: &'a HostRuntime,
     words: Serving<'a>,
     place: Place<'a>,
@@ -342,12 +454,12 @@ fn serve_all<'a, S: Sources + Drop>(
     let input = words.faults.input(STANDARD_INPUT, rt.reader());
     let mut requests = BufReader::new(rt.alloc(), input).map_err(told)?;
     let mut room = Room::new(rt.alloc());
-    let mut served = served;
+    let mut left = serve_all(rt, words, place, digests, served, &mut requests, &mut room)?;
     for _ in 0..u64::MAX {
-        match serve_some(rt, words, place, digests, served, &mut requests, &mut room)? {
-            Some(left) => served = left,
-            None => return Ok(Status::Success),
-        }
+        let Some(moved) = left else {
+            return Ok(Status::Success);
+        };
+        left = serve_beside(rt, words, digests, moved, &mut requests, &mut room)?;
     }
     Err(ToolFault::Read)
 }
@@ -403,9 +515,9 @@ fn serve_begun<'a, L: Ledger, W>(
         session,
         sources,
         journal,
-        state,
+        state: keep_over(rt, place, state),
     };
-    serve_all(rt, words, place, digests, served)
+    serve_input(rt, words, place, digests, served)
 }
 
 /// Begins a session, once no other one keeps anything beside the image.
