@@ -76,6 +76,7 @@ bench:
 	sh bench/scripts.sh
 	sh bench/onto.sh
 	sh bench/blame.sh
+	python3 bench/serve.py
 	sh bench/commit.sh
 	sh bench/edit.sh
 	python3 bench/plot.py "$(PROGRAM)"
