@@ -47,11 +47,7 @@ library:
 
 check:
 	rt ci
-	sh tests/program.sh
-	sh tests/program.sh bin/cordkit launcher
-	sh tests/slice.sh
-	sh tests/devices.sh
-	$(MAKE) installed
+	sh tests/at_once.sh 'sh tests/program.sh' 'sh tests/program.sh bin/cordkit launcher' 'sh tests/slice.sh' 'sh tests/devices.sh' '$(MAKE) installed'
 
 long:
 	OLD="$(OLD)" sh tests/long.sh
