@@ -1,9 +1,9 @@
 #!/bin/sh
-# Times the store's operations beside the rope of libstdc++ doing the same, in one run.
+# Times the store's operations beside the rope of libstdc++ doing the same, in one run; and, where `make library` built it, the same by the C library.
 set -eu
 cd "$(dirname "$0")/.."
 peer=$(mktemp)
-trap 'rm -f "$peer"' EXIT
+trap 'rm -f "$peer" "$peer.c"' EXIT
 g++ -O2 -o "$peer" bench/rope.cc
 program=crates/cord_bench/out/cord_bench
 [ -x "$program" ] || (cd crates/cord_bench && rt run > /dev/null 2>&1)
@@ -31,6 +31,16 @@ echo "cordkit, what an editor does:"
 "$program"
 echo "libstdc++ ext/rope, the same:"
 "$peer"
+library=crates/cord_session/out/libcord_session.a
+if [ -f "$library" ]; then
+    gcc -O2 -std=gnu11 -I crates/cord_c -I crates/cord_session -o "$peer.c" bench/c_ropes.c "$library"
+    echo "the C library, a million of each:"
+    least env GLIBC_TUNABLES=$pages "$peer.c" store
+    echo "the C library, what an editor does:"
+    "$peer.c"
+else
+    echo "LEFT OUT: the C library: there is no $library: make library builds it"
+fi
 echo "cordkit, many replacements in a megabyte, every revision kept with its rows:"
 "$program" many
 echo "libstdc++ ext/rope, the same, no earlier text kept:"

@@ -44,69 +44,43 @@ fn parts_of(code: &str) -> (&str, &str) {
     (name, numbers)
 }
 
+/// Files that there are, and then others.
+fn gathered<'a>(
+    alloc: Global,
+    first: [Option<&'a str>; 2],
+    rest: &[&'a str],
+) -> Result<Vec<&'a str>, AllocError> {
+    let mut files = Vec::new(alloc);
+    for file in first.into_iter().flatten() {
+        files.push(file)?;
+    }
+    files.extend_from_slice(rest)?;
+    Ok(files)
+}
+
 /// The files that a run reads, in the order in which it opens them.
+#[rattlefmt::skip]
 fn inputs<'a>(alloc: Global, action: &Action<'a>) -> Result<Vec<&'a str>, AllocError> {
-    let mut inputs = Vec::new(alloc);
     match action {
-        Action::CheckInput | Action::Discard { .. } => {}
+        Action::CheckInput | Action::Discard { .. } => Ok(Vec::new(alloc)),
         Action::Check { image, sources, .. }
         | Action::Migrate { image, sources, .. }
         | Action::Show { image, sources, .. }
         | Action::Log { image, sources, .. }
-        | Action::Blame { image, sources, .. } => {
-            inputs.push(*image)?;
-            inputs.extend_from_slice(sources)?;
-        }
-        Action::Apply {
-            onto,
-            script,
-            sources,
-            ..
-        } => {
-            if let Some(image) = onto {
-                inputs.push(*image)?;
-            }
-            inputs.push(*script)?;
-            inputs.extend_from_slice(sources)?;
-        }
-        Action::Commit {
-            image,
-            file,
-            sources,
-            ..
-        } => {
-            inputs.extend_from_slice(&[*file, *image])?;
-            inputs.extend_from_slice(sources)?;
-        }
-        Action::Restore {
-            image,
-            file,
-            sources,
-            ..
-        } => {
-            inputs.push(*image)?;
-            inputs.extend_from_slice(sources)?;
+        | Action::Blame { image, sources, .. } => gathered(alloc, [Some(*image), None], sources),
+        Action::Apply { onto, script, sources, .. } => gathered(alloc, [*onto, Some(*script)], sources),
+        Action::Commit { image, file, sources, .. } => gathered(alloc, [Some(*file), Some(*image)], sources),
+        Action::Restore { image, file, sources, .. } => {
+            let mut inputs = gathered(alloc, [Some(*image), None], sources)?;
             inputs.push(*file)?;
+            Ok(inputs)
         }
-        Action::Cut { file, .. } | Action::Find { file, .. } => inputs.push(*file)?,
-        Action::Join { files } => inputs.extend_from_slice(files)?,
-        Action::Cmp { first, second } => inputs.extend_from_slice(&[*first, *second])?,
-        Action::Edit { onto, file, .. } => {
-            if let Some(older) = onto {
-                inputs.push(*older)?;
-            }
-            if let Some(file) = file {
-                inputs.push(*file)?;
-            }
-        }
-        Action::Serve { image, source, .. } => {
-            inputs.push(*image)?;
-            if let Some(source) = source {
-                inputs.push(*source)?;
-            }
-        }
+        Action::Cut { file, .. } | Action::Find { file, .. } => gathered(alloc, [Some(*file), None], &[]),
+        Action::Join { files } => gathered(alloc, [None, None], files),
+        Action::Cmp { first, second } => gathered(alloc, [Some(*first), Some(*second)], &[]),
+        Action::Edit { onto, file, .. } => gathered(alloc, [*onto, *file], &[]),
+        Action::Serve { image, source, .. } => gathered(alloc, [Some(*image), *source], &[]),
     }
-    Ok(inputs)
 }
 
 /// The session of an editor, as the words name it.
