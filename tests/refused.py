@@ -297,7 +297,7 @@ class Room:
         told = [int(number) for number in NUMBERED.findall(found[1])]
         there = int(first.split()[0]) if NUMBERED.fullmatch(first) else -1
         is_saved = again[0] == 0 and again[2] == b"" and saved == b"saved %s\n" % (b"none" if there < 0 else b"%d" % there)
-        left = [name for name in ("image.lines", "image.lines.saved", "image.new") if self.image(name) is not None]
+        left = [name for name in ("image.lines", "image.lines.saved", "image.lines.over", "image.new") if self.image(name) is not None]
         return is_saved and not left and there >= max(told, default=-1) and self.run(["check", "image"])[1].startswith(b"accepted %d " % (there + 1))
 
     def try_served(self, name, older):
@@ -306,7 +306,7 @@ class Room:
         self.put("goes_on", GOES_ON)
         spared, refused = 0, 0
         while True:
-            for left in ("image", "image.lines", "image.lines.saved", "image.new"):
+            for left in ("image", "image.lines", "image.lines.saved", "image.lines.over", "image.new"):
                 self.image(left)
             if older is not None:
                 self.put("image", older)
