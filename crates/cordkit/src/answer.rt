@@ -1,7 +1,7 @@
 //! What the program answered.
 
-use crate::faults::Faults;
 use cord_explanations::ShownName;
+use image_files::Faults;
 use std::alloc::Global;
 use std::{fmt, io};
 

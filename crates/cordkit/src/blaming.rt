@@ -1,9 +1,8 @@
 //! Where bytes come from, as an output.
 
-use crate::faults::Output;
 use crate::meter::Meter;
-use crate::opening::told;
 use cord_tools::ToolFault;
+use image_files::{Output, told};
 use lazy_file::Sources;
 use script_tools::{BlameFault, BytesOfText, run_blame_told};
 use std::io::{BufWriter, Write};

@@ -3,21 +3,19 @@
 ghost use Rattle.std.specs.Prelude.{◌≡◌, ◌*◌, ◌<◌, length};
 
 use crate::digests::SourceLines;
-use crate::faults::Faults;
-use crate::file_state::{FileState, is_named, state_behind};
-use crate::image_file::ImageFile;
 use crate::last_commit::{is_committed_from, keep_committed, tell_other};
 use crate::meter::Meter;
-use crate::opening::{open, opened_sources, told_size};
-use crate::other_journals::refuse_lines;
+use crate::opening::opened_sources;
 use commit_tools::{Commit, CommitFault, run_commit, run_commit_anew};
 use cord_tools::{Status, ToolFault, read_image, read_source};
 use edit_commands::EditFault;
+use image_files::{Faults, FileState, ImageFile, is_named, open, state_behind, told_size};
 use image_reader::Image;
 use lazy_file::Sources;
 use leaf_buffer::POOL_LIMIT;
 use node_table::NodeFault;
 use session_checker::WantedRevision;
+use session_files::refuse_lines;
 use std::fs;
 use std::io::{self, ErrorKind, Write};
 use std::sync::ledger::{Blank, Ledger};

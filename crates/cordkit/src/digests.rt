@@ -1,8 +1,8 @@
 //! Digests of the files that a session was made from. They stand beside its image, which has the lengths of these files alone.
 
-use crate::modes::Mode;
 use crate::side_file::{Found, found_at, write_by};
 use cord_tools::ToolFault;
+use image_files::Mode;
 use key_journal::{END_SIZE, WHOLE_LIMIT};
 use sha2::{Digest, Sha256};
 use std::fmt;

@@ -5,15 +5,12 @@ ghost use Rattle.std.specs.Prelude.{◌≡◌, ◌<◌};
 use crate::answer::{Answer, Note};
 use crate::digests::{SourceLines, is_large};
 use crate::editing_onto::edit_onto;
-use crate::faults::{Faults, STANDARD_INPUT};
-use crate::file_state::FileState;
-use crate::image_file::{ImageFile, Put};
-use crate::journal::Journal;
+use crate::keys_played::Keyed;
 use crate::opening::{OpenedSources, opened_sources};
-use crate::other_journals::refuse_lines;
-use crate::session_file::{Beginning, read_beginning, write_beginning};
 use cord_tools::{Status, ToolFault, run_edit};
+use image_files::{Faults, FileState, ImageFile, Put, STANDARD_INPUT};
 use lazy_file::Sources;
+use session_files::{Beginning, Journal, read_beginning, refuse_lines, write_beginning};
 use std::fs;
 use std::fs::File;
 use std::io::ErrorKind;
@@ -30,6 +27,20 @@ pub struct Editing<'a> {
     pub image: &'a str,
     pub file: Option<&'a str>,
     pub faults: &'a Faults,
+}
+
+/// The session, behind the keys that its journal has.
+pub(crate) fn keyed<'a>(
+    rt: &'a HostRuntime,
+    words: Editing<'a>,
+    journal: &'a Journal<'a>,
+) -> Keyed<'a> {
+    Keyed {
+        rt,
+        faults: words.faults,
+        name: words.image,
+        journal,
+    }
 }
 
 /// What follows an edit: an image that is whole is put in its place.
@@ -147,7 +158,7 @@ fn saved_before<S: Sources + Drop>(
     journal: &Journal<'_>,
     sources: S,
 ) -> Result<Put, ToolFault> {
-    if !journal.is_saved(words.image, sources)? {
+    if !keyed(rt, words, journal).is_saved(sources)? {
         return Err(ToolFault::ImageThere);
     }
     // It may have a second name.
@@ -167,7 +178,7 @@ fn edit_kept<S: Sources + Drop>(
     let journal = Journal::open(rt, keys, begun.map(|b| b.keys), &mut sources, words.faults)?;
     let put = match begun_image(rt, words, &journal, begun) {
         Ok(mut image) => {
-            let status = journal.edit(words.image, sources, &mut image);
+            let status = keyed(rt, words, &journal).edit(sources, &mut image);
             finish(status, &image)
         }
         Err(ToolFault::ImageThere) => saved_before(rt, words, &journal, sources),

@@ -3,18 +3,14 @@
 ghost use Rattle.std.specs.Prelude.{◌≡◌, ◌<◌};
 
 use crate::editing::{
-    Editing, begin_again, beginning_of, begun_image, close, finish, refuse_image, sources_of,
+    Editing, begin_again, beginning_of, begun_image, close, finish, keyed, refuse_image, sources_of,
 };
-use crate::faults::STANDARD_INPUT;
-use crate::file_state::{FileState, state_of};
-use crate::image_file::{ImageFile, Put};
-use crate::journal::{Journal, LockedJournal};
-use crate::journal_front::Front;
-use crate::opening::{OpenedSources, open, told_size};
-use crate::session_file::Beginning;
+use crate::opening::OpenedSources;
 use cord_tools::{Status, ToolFault, read_image, run_edit_onto};
+use image_files::{FileState, ImageFile, Put, STANDARD_INPUT, open, state_of, told_size};
 use key_journal::header_onto;
 use lazy_file::Sources;
+use session_files::{Beginning, Front, Journal, LockedJournal, put_behind};
 use std::fs::File;
 use std::sync::ledger::{Blank, Ledger};
 
@@ -72,21 +68,6 @@ fn image_over<'a>(
     }
 }
 
-/// Puts an image that is whole in its place. Its journal is set aside meanwhile:
-/// it was begun over the older image, which may be the one whose place it takes.
-pub(crate) fn put_behind(journal: &Journal<'_>, image: &ImageFile<'_>) -> Result<Put, ToolFault> {
-    if !image.takes_place() {
-        return image.put();
-    }
-    journal.set_aside()?;
-    let put = image.put();
-    match &put {
-        Ok(Put::InPlace | Put::Over(_)) => {}
-        _ => journal.bring_back(),
-    }
-    put
-}
-
 /// What follows an edit whose keys are kept.
 fn finish_kept(
     status: Result<Status, ToolFault>,
@@ -111,7 +92,7 @@ fn saved_before<S: Sources + Drop>(
     older: Vec<u8>,
     sources: S,
 ) -> Result<Put, ToolFault> {
-    if !journal.is_saved_onto(words.image, older, sources)? {
+    if !keyed(rt, words, journal).is_saved_onto(older, sources)? {
         return Err(ToolFault::ImageThere);
     }
     // It may have a second name.
@@ -152,7 +133,7 @@ fn edit_kept<L: Ledger>(
     let begun = journal.begun_with(begun);
     let put = match image_over(rt, words, &journal, begun, &file, state) {
         Ok(mut image) => {
-            let status = journal.edit_onto(words.image, bytes, sources, &mut image);
+            let status = keyed(rt, words, &journal).edit_onto(bytes, sources, &mut image);
             finish_kept(status, &journal, &image)
         }
         Err(ToolFault::ImageThere) => saved_before(rt, words, &journal, bytes, sources),

@@ -4,9 +4,10 @@ ghost use Rattle.std.specs.Prelude.{◌≡◌, ◌*◌, ◌<◌, length};
 
 use crate::answer::Answer;
 use crate::meter::Meter;
-use crate::opening::{open, opened_sources, told_size};
+use crate::opening::opened_sources;
 use crate::scripts::{read_script, refuse_script};
 use cord_tools::{Status, ToolFault, read_image};
+use image_files::{open, told_size};
 use saved_session::TakeFault;
 use script_tools::{OntoFault, run_apply_onto};
 use std::sync::ledger::{Blank, Ledger};

@@ -2,9 +2,9 @@
 
 use crate::committing::Committing;
 use crate::digests::{tell, tell_unwritten};
-use crate::modes::Mode;
 use crate::side_file::{Found, found_at, write_by};
 use cord_tools::ToolFault;
+use image_files::Mode;
 use std::alloc::AllocError;
 use std::fs;
 use std::path::Path;

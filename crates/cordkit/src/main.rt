@@ -7,34 +7,22 @@ mod committing;
 mod digests;
 mod editing;
 mod editing_onto;
-mod faults;
 mod few_rows;
-mod file_state;
 mod going_on;
 mod hint;
-mod image_file;
-mod journal;
-mod journal_front;
+mod keys_played;
 mod last_commit;
-mod lines_over;
 mod meter;
-mod modes;
-mod old_image;
 mod opening;
-mod other_journals;
-mod part_file;
 mod restoring;
 mod revision_words;
 mod saved_before;
 mod saving_served;
 mod scripts;
 mod serving;
-mod session_file;
 mod side_file;
 mod standard_streams;
-mod synced_file;
 mod text_file;
-mod twin;
 
 ghost use Rattle.std.specs.Prelude.{◌≡◌, ◌*◌, ◌-◌, ◌^◌, ◌<◌, length};
 
@@ -43,9 +31,7 @@ use crate::blaming::write_blame;
 use crate::committing::{Committing, commit};
 use crate::digests::tell_changed;
 use crate::editing::{Editing, edit};
-use crate::faults::{Faults, STANDARD_INPUT};
 use crate::going_on::apply_onto;
-use crate::journal::discard;
 use crate::meter::Meter;
 use crate::opening::{
     OpenedImage, names_of, opened_image, opened_image_of, opened_sources, opened_with_sources,
@@ -61,9 +47,11 @@ use cord_tools::{
     run_cut, run_find, run_find_all_told, run_join, run_migrate_told, run_show_wanted, run_stdin,
 };
 use cord_words::{Action, Lengths, Request, WordsFault, no_text, words};
+use image_files::{Faults, STANDARD_INPUT};
 use lazy_file::Sources;
 use script_tools::{ApplyFault, BytesOfText, run_apply_told};
 use session_checker::WantedRevision;
+use session_files::discard;
 use std::io::{ErrorKind, IsTerminal};
 use std::marker::Brand;
 use std::process::ExitCode;

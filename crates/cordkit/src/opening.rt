@@ -5,6 +5,7 @@ ghost use Rattle.std.specs.Prelude.{◌≡◌, ◌*◌, ◌+◌, ◌<◌, ◌≤
 use crate::digests::tell_changed;
 use cord_tools::{ToolFault, read_source};
 use cord_words::Lengths;
+use image_files::{open, told_size};
 use lazy_file::{FileDevice, FileSources};
 use source_device::SourceDevice;
 use std::alloc::{AllocError, Global};
@@ -19,28 +20,6 @@ const BLOCKS: usize = 256;
 
 /// The sources of every tool: files that are read where they lie, and what was read of others.
 pub type OpenedSources<L> = FileSources<SourceDevice<FileDevice<L>>>;
-
-/// How an error of an input is told.
-pub fn told(error: io::Error) -> ToolFault {
-    if error.kind() == ErrorKind::OutOfMemory {
-        ToolFault::Memory
-    } else {
-        ToolFault::Read
-    }
-}
-
-/// Opens an input.
-pub fn open(rt: &HostRuntime, path: &str) -> Result<File, ToolFault> {
-    fs::open(rt, path).map_err(told)
-}
-
-/// So many bytes a file tells that it has. A pipe tells none, nor does a file that the system makes as it is read.
-pub fn told_size(file: &File) -> u64 {
-    match file.metadata() {
-        Ok(metadata) if metadata.is_file() => metadata.len(),
-        _ => 0,
-    }
-}
 
 /// An image that is to be checked with its sources, by so many looks at most.
 #[derive(Drop)]
@@ -255,18 +234,4 @@ pub fn opened_with_sources<L: Ledger>(
     // Where there is no memory for it, nothing is told.
     let _ = tell_changed(rt, image, paths);
     Ok(opened)
-}
-
-/// Syncs the folder of a file, whose name stands then. What cannot be synced stands as long as the system does.
-pub fn sync_folder(rt: &HostRuntime, path: &str) {
-    if let Some(folder) = Path::new(path).parent() {
-        let name = if folder.as_str().is_empty() {
-            "."
-        } else {
-            folder.as_str()
-        };
-        if let Ok(folder) = File::open(rt, name) {
-            let _ = folder.sync_all();
-        }
-    }
 }

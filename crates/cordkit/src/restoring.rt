@@ -4,12 +4,12 @@ ghost use Rattle.std.specs.Prelude.{◌≡◌, ◌*◌, ◌<◌, length};
 
 use crate::committing::{Committing, answer, begin, commit_begun};
 use crate::digests::SourceLines;
-use crate::faults::Faults;
 use crate::last_commit::keep_restored;
 use crate::meter::Meter;
 use crate::opening::{OpenedImage, opened_with_sources};
 use crate::text_file::{Part, TextFile};
 use cord_tools::{Status, ToolFault, run_show_wanted};
+use image_files::Faults;
 use lazy_file::Sources;
 use session_checker::WantedRevision;
 use std::fs;

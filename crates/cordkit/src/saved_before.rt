@@ -1,7 +1,7 @@
 //! A session that was saved, and ended before its keys were taken away.
 
-use crate::twin::Twin;
 use cord_tools::{Status, ToolFault, run_kept, run_kept_onto};
+use image_files::Twin;
 use key_journal::{Kept, SAVE};
 use lazy_file::Sources;
 use std::{fs, io};

@@ -1,17 +1,12 @@
 //! A session that is served, saved: it goes on over its new image.
 
 use crate::digests::SourceLines;
-use crate::editing_onto::put_behind;
-use crate::file_state::FileState;
-use crate::image_file::{ImageFile, Put};
-use crate::journal::Journal;
-use crate::journal_front::Front;
-use crate::lines_over::keep_over;
-use crate::opening::open;
-use crate::serving::{Place, Served, Serving, image_at};
+use crate::serving::{Served, Serving, image_at};
 use cord_tools::ToolFault;
+use image_files::{FileState, ImageFile, Put, open};
 use key_journal::header_onto;
 use lazy_file::Sources;
+use session_files::{Front, Journal, Place, keep_over, put_behind};
 use session_image::write;
 
 /// An image that stands beside what took its place.

@@ -1,11 +1,10 @@
 //! Scripts as inputs.
 
 use crate::answer::Answer;
-use crate::faults::Output;
 use crate::meter::Meter;
-use crate::opening::{open, told, told_size};
 use cord_tools::{Status, ToolFault, read_source};
 use edit_script::{Stop, Stopped};
+use image_files::{Output, open, told, told_size};
 use lazy_file::{AddFault, SOURCE_LIMIT, Sources};
 use script_tools::{LogFault, LogTexts, run_log_told};
 use std::alloc::{AllocError, Global};

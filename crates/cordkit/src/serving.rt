@@ -5,24 +5,23 @@ ghost use Rattle.std.specs.Prelude.{◌≡◌, ◌<◌};
 use crate::answer::Answer;
 use crate::digests::SourceLines;
 use crate::editing::sources_of;
-use crate::faults::{Faults, Input, STANDARD_INPUT};
-use crate::file_state::{FileState, state_of};
-use crate::image_file::ImageFile;
-use crate::journal::{Journal, LockedJournal};
-use crate::journal_front::Front;
-use crate::lines_over::{drop_over, keep_over};
 use crate::meter::Meter;
-use crate::opening::{OpenedSources, open, told, told_size};
-use crate::other_journals::{place_of, refuse_keys};
+use crate::opening::OpenedSources;
 use crate::saving_served::{Beside, Saved, save};
 use crate::scripts::{lens_of, refuse_script};
 use cord_tools::{Status, ToolFault, read_image};
 use edit_commands::Session;
 use edit_script::{Room as ScriptRoom, Stopped, apply_script_told, push_escaped};
+use image_files::{
+    Faults, FileState, ImageFile, Input, STANDARD_INPUT, open, state_of, told, told_size,
+};
 use key_journal::header_onto;
 use lazy_file::Sources;
 use line_server::{End, Room, ServeFault};
 use script_tools::{OntoFault, begun_alone, begun_onto};
+use session_files::{
+    Front, Journal, LockedJournal, Place, drop_over, keep_over, place_of, refuse_keys,
+};
 use session_image::write;
 use session_server::{Question, Speaking, asked, serve_speaking};
 use std::alloc::Global;
@@ -38,13 +37,6 @@ pub struct Serving<'a> {
     pub image: &'a str,
     pub source: Option<&'a str>,
     pub faults: &'a Faults,
-}
-
-/// Where a session stands: its image, by the name that a link leads to, and its journal.
-#[derive(Clone, Copy)]
-pub struct Place<'a> {
-    pub image: &'a str,
-    pub lines: &'a str,
 }
 
 /// Requests, which are read by blocks.

@@ -1,9 +1,8 @@
 //! Small files that stand beside an image and tell something of it.
 
-use crate::file_state::state_at;
-use crate::modes::Mode;
 use crate::text_file::made;
 use cord_tools::ToolFault;
+use image_files::{Mode, state_at};
 use std::fs;
 use std::io::{self, ErrorKind, Write};
 
@@ -61,20 +60,4 @@ pub fn write_by(
         let _ = fs::remove_file(rt, part);
     }
     written.map_err(|_| ToolFault::Write)
-}
-
-/// The endings of their names.
-const ENDINGS: [&str; 2] = [".sources", ".committed"];
-
-/// Gives what stands beside an image the name that fits another one, which that image has got: where that name is free.
-pub fn follow(rt: &HostRuntime, image: &str, kept: &str) -> Result<(), ToolFault> {
-    for ending in ENDINGS {
-        let old = format!(in rt.alloc(); "{image}{ending}")?;
-        let new = format!(in rt.alloc(); "{kept}{ending}")?;
-        if state_at(rt, &new).is_none() {
-            // What cannot be renamed tells of an image that is no more.
-            let _ = fs::rename(rt, &old, &new);
-        }
-    }
-    Ok(())
 }

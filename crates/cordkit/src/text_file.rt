@@ -1,11 +1,7 @@
 //! A file that gets another text.
 
-use crate::faults::Faults;
-use crate::file_state::{FileState, state_at, state_behind};
-use crate::image_file::put_new;
-use crate::modes::Mode;
-use crate::opening::sync_folder;
 use cord_tools::ToolFault;
+use image_files::{Faults, FileState, Mode, put_new, state_at, state_behind, sync_folder};
 use std::fs::{self, File};
 use std::io::{self, ErrorKind};
 use std::os::unix::fs::OpenOptionsExt;

@@ -1,8 +1,8 @@
 //! What other sessions keep beside an image: no two of them go on from one.
 
-use crate::faults::Faults;
 use crate::journal_front::{KEYS_FRONT_SIZE, LINES_FRONT_SIZE};
 use cord_tools::ToolFault;
+use image_files::Faults;
 use std::fs::{self, TryLockError};
 use std::io::ErrorKind;
 

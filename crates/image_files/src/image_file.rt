@@ -4,11 +4,11 @@ ghost use Rattle.std.specs.Prelude.{◌≤◌, IfOk, length};
 
 use crate::faults::Faults;
 use crate::file_state::{FileState, is_named, state_at, state_of};
+use crate::following::follow;
 use crate::modes::Mode;
 use crate::old_image::{bring_back, keep, would_be_lost};
 use crate::opening::{sync_folder, told, told_size};
 use crate::part_file::{lock_in_turn, make_in_turn, remove_in_turn};
-use crate::side_file::follow;
 use crate::twin::have_same_bytes;
 use cord_tools::{ToolFault, may_replace, read_image};
 use std::fs::File;
@@ -140,7 +140,7 @@ fn text(rt: &HostRuntime, parts: &[&str]) -> Result<String, ToolFault> {
 }
 
 /// Gives the file `part` a new name, which no other file has. Answers whether none had it.
-pub(crate) fn put_new(
+pub fn put_new(
     rt: &HostRuntime,
     part: &str,
     path: &str,

@@ -1,34 +1,20 @@
 //! The journal of a session that is not saved: its keys, or its lines.
 
-use crate::faults::{Faults, Input, STANDARD_INPUT};
-use crate::few_rows::{FewRows, rows_of_terminal};
-use crate::file_state::{FileBirth, birth_of, is_named};
-use crate::hint::hint;
-use crate::image_file::ImageFile;
 use crate::journal_front::{FRONT_OF_KEYS, Front, Standing};
-use crate::modes::OF_KEYS;
-use crate::opening::{sync_folder, told};
-use crate::part_file::pause;
-use crate::saved_before::{is_image_of, is_image_onto};
 use crate::session_file::Beginning;
 use crate::synced_file::SyncedFile;
-use cord_tools::{
-    Status, ToolFault, only_look, run_kept, run_kept_onto, run_typed, run_typed_onto,
-};
-use key_journal::{Kept, header_over};
+use cord_tools::{Status, ToolFault, only_look};
+use image_files::{Faults, FileBirth, OF_KEYS, birth_of, is_named, pause, sync_folder};
+use key_journal::header_over;
 use lazy_file::Sources;
 use line_server::split_whole;
 use std::fs::File;
-use std::io::{BufReader, ErrorKind, IsTerminal, Read, StdinLock, Write};
+use std::io::{ErrorKind, Read, Write};
 use std::os::unix::fs::OpenOptionsExt;
 use std::{fs, io};
-use terminal_keys::TerminalKeys;
 
 /// A lock on a journal that is begun anew is tried so many times.
 const TRIES: usize = 400;
-
-/// Keys that a terminal gives by blocks, each kept before it is taken.
-type TypedKeys<'a> = Kept<TerminalKeys<BufReader<Input<'a, StdinLock<'a>>>>, SyncedFile<'a>>;
 
 /// The file of the keys or the lines of a session that is not saved. It has its front, and is locked.
 #[derive(Drop)]
@@ -401,7 +387,7 @@ impl<'a> Journal<'a> {
     }
 
     /// The keys that it had when it was opened.
-    fn keys(&self) -> &[u8] {
+    pub fn keys(&self) -> &[u8] {
         self.bytes.get(self.front..).unwrap_or(&[])
     }
 
@@ -440,107 +426,9 @@ impl<'a> Journal<'a> {
         is_named(self.rt, self.path, &self.file)
     }
 
-    /// Whether a file is the image of its keys, if they make one: a
-    /// session that was saved may have ended before they were taken away.
-    pub fn is_saved<S: Sources + Drop>(&self, path: &str, sources: S) -> Result<bool, ToolFault> {
-        let keys = self.keys();
-        if only_look(keys) {
-            return Ok(false);
-        }
-        is_image_of(self.rt, path, keys, sources)
-    }
-
-    /// Whether a file is the image that its keys make over an older one, if they make one.
-    pub fn is_saved_onto<S: Sources + Drop>(
-        &self,
-        path: &str,
-        older: Vec<u8>,
-        sources: S,
-    ) -> Result<bool, ToolFault> {
-        let keys = self.keys();
-        if only_look(keys) {
-            return Ok(false);
-        }
-        is_image_onto(self.rt, path, older, keys, sources)
-    }
-
     /// Where its keys or its lines are written.
     pub fn synced(&self) -> SyncedFile<'_> {
         SyncedFile::new(self.rt, self.path, &self.file, self.faults)
-    }
-
-    /// The keys of the terminal, read by blocks and kept.
-    fn typed(&self) -> Result<TypedKeys<'_>, ToolFault> {
-        let input = self.faults.input(STANDARD_INPUT, self.rt.reader());
-        let reader = BufReader::new(self.rt.alloc(), input).map_err(told)?;
-        Ok(Kept::new(TerminalKeys::new(reader), self.synced()))
-    }
-
-    /// Edits behind the keys that it has, and keeps those that follow. On a terminal the first screen names the image.
-    pub fn edit<S: Sources + Drop>(
-        &self,
-        name: &str,
-        sources: S,
-        image: &mut ImageFile<'a>,
-    ) -> Result<Status, ToolFault> {
-        let mut screen = self.faults.output(self.rt);
-        if self.rt.stdin().is_terminal() {
-            let hint = hint(self.rt.alloc(), name)?;
-            let mut screen = FewRows::new(self.rt.alloc(), screen, rows_of_terminal(self.rt));
-            return run_typed(
-                self.rt.alloc(),
-                sources,
-                Some(hint.as_str()),
-                self.keys(),
-                &mut self.typed()?,
-                &mut screen,
-                image,
-            );
-        }
-        let input = self.faults.input(STANDARD_INPUT, self.rt.reader());
-        run_kept(
-            self.rt.alloc(),
-            sources,
-            self.keys(),
-            &mut Kept::new(TerminalKeys::new(input), self.synced()),
-            &mut screen,
-            image,
-        )
-    }
-
-    /// Goes on with an older image behind the keys that it has, and keeps those that follow.
-    pub fn edit_onto<S: Sources + Drop>(
-        &self,
-        name: &str,
-        older: Vec<u8>,
-        sources: S,
-        image: &mut ImageFile<'a>,
-    ) -> Result<Status, ToolFault> {
-        let mut screen = self.faults.output(self.rt);
-        if self.rt.stdin().is_terminal() {
-            let hint = hint(self.rt.alloc(), name)?;
-            let mut screen = FewRows::new(self.rt.alloc(), screen, rows_of_terminal(self.rt));
-            return run_typed_onto(
-                self.rt.alloc(),
-                older,
-                sources,
-                Some(hint.as_str()),
-                self.keys(),
-                &mut self.typed()?,
-                &mut screen,
-                image,
-            );
-        }
-        let input = self.faults.input(STANDARD_INPUT, self.rt.reader());
-        run_kept_onto(
-            self.rt.alloc(),
-            older,
-            sources,
-            self.keys(),
-            &mut Kept::new(TerminalKeys::new(input), self.synced()),
-            &mut screen,
-            image,
-        )
     }
 
     /// Sets it aside, and syncs its folder: the image of its session is to take the place of the one that it was begun

@@ -1,8 +1,14 @@
 //! The image that the lines of a session go on from, by a second name: there it stays, where another program takes its place.
 
-use crate::file_state::{FileState, state_at};
-use crate::serving::Place;
+use image_files::{FileState, state_at};
 use std::fs;
+
+/// Where a session stands: its image, by the name that a link leads to, and its journal.
+#[derive(Clone, Copy)]
+pub struct Place<'a> {
+    pub image: &'a str,
+    pub lines: &'a str,
+}
 
 /// The second name of the image beside which these lines stand. Without memory it has none.
 fn name_over(rt: &HostRuntime, lines: &str) -> Option<String> {

@@ -1,6 +1,6 @@
 //! A file that is synced as it is written.
 
-use crate::faults::Faults;
+use image_files::Faults;
 use std::fs::File;
 use std::io::{self, ErrorKind, Write};
 use std::time::{Duration, Instant};

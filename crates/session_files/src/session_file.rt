@@ -1,9 +1,8 @@
 //! The file of a session: what there was when it began. A session
 //! that goes on finds it, and it goes once the image is saved.
 
-use crate::faults::Faults;
-use crate::file_state::{FileBirth, FileState, Moment};
 use cord_tools::ToolFault;
+use image_files::{Faults, FileBirth, FileState, Moment};
 use std::alloc::{AllocError, Global};
 use std::io::ErrorKind;
 use std::{fs, io};
