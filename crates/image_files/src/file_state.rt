@@ -1,5 +1,8 @@
 //! What stands under a name.
 
+ghost use Rattle.std.specs.Prelude.{◌↔◌, IsTrue};
+ghost use Rattle.image_files.specs.FileStates.{HasBytesOf};
+
 use std::fmt;
 use std::fs::{self, File, Metadata};
 use std::os::unix::fs::MetadataExt;
@@ -43,8 +46,12 @@ pub struct FileState {
 
 impl FileState {
     /// Whether the file is the one that it was then, with the bytes that it had. It may have got or lost a name.
-    pub fn has_bytes_of(&self, then: FileState) -> bool {
-        (self.device, self.inode, self.size) == (then.device, then.inode, then.size)
+    pub fn has_bytes_of(&self, then: FileState) -> bool
+        ensures { IsTrue result ↔ HasBytesOf self.now then }
+    {
+        self.device == then.device
+            && self.inode == then.inode
+            && self.size == then.size
             && self.modified == then.modified
     }
 }

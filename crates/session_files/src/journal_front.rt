@@ -1,5 +1,11 @@
 //! What a journal begins with: which session it belongs to, and what it keeps.
 
+ghost use Rattle.std.specs.Prelude.{◌≡◌, ◌↔◌, ◌≤◌, IfOk, IsTrue, length};
+ghost use Rattle.session_server.specs.Fronts.{lines_front};
+ghost use Rattle.session_files.specs.declared.journal_front.Kind.TheVariants.{Keys, Lines};
+ghost use Rattle.session_files.specs.declared.journal_front.Standing.TheVariants.{Kept, Other, Torn};
+ghost use Rattle.session_files.specs.Fronts.{IsPartOfFront, KeepsBehindFront};
+
 use key_journal::{Found, HEADER_SIZE, find_keys};
 use line_server::{is_torn, kept_lines};
 use session_server::lines_front;
@@ -19,7 +25,7 @@ pub const LINES_FRONT_SIZE: u64 = 129;
 
 /// What a journal keeps.
 #[derive(Clone, Copy)]
-enum Kind {
+pub enum Kind {
     Keys,
     Lines,
 }
@@ -38,13 +44,15 @@ pub enum Standing {
 /// What the journal of a session begins with.
 #[derive(Drop)]
 pub struct Front {
-    kind: Kind,
-    bytes: Vec<u8>,
+    pub kind: Kind,
+    pub bytes: Vec<u8>,
 }
 
 impl Front {
     /// That of a file of keys: the header.
-    pub fn of_keys(alloc: Global, header: &[u8; HEADER_SIZE]) -> Result<Front, AllocError> {
+    pub fn of_keys(alloc: Global, header: &[u8; HEADER_SIZE]) -> Result<Front, AllocError>
+        ensures { IfOk result (λ front. (front.kind ≡ Keys) × (front.bytes.items ≡ header.now)) }
+    {
         Ok(Front {
             kind: Kind::Keys,
             bytes: Vec::from_slice(alloc, header)?,
@@ -52,7 +60,9 @@ impl Front {
     }
 
     /// That of a file of lines: a comment, which holds the header.
-    pub fn of_lines(alloc: Global, header: &[u8; HEADER_SIZE]) -> Result<Front, AllocError> {
+    pub fn of_lines(alloc: Global, header: &[u8; HEADER_SIZE]) -> Result<Front, AllocError>
+        ensures { IfOk result (λ front. (front.kind ≡ Lines) × (front.bytes.items ≡ lines_front header.now)) }
+    {
         Ok(Front {
             kind: Kind::Lines,
             bytes: lines_front(alloc, header)?,
@@ -60,7 +70,9 @@ impl Front {
     }
 
     /// So many bytes it has.
-    pub fn len(&self) -> usize {
+    pub fn len(&self) -> usize
+        ensures { result ≡ length self.now.bytes.items }
+    {
         self.bytes.len()
     }
 
@@ -70,7 +82,11 @@ impl Front {
     }
 
     /// What stands in a file of these bytes.
-    pub fn standing(&self, bytes: &[u8]) -> Standing {
+    pub fn standing(&self, bytes: &[u8]) -> Standing
+        ensures kept { (result ≡ Kept) ↔ KeepsBehindFront self.now.kind self.now.bytes.items bytes.now }
+        ensures torn { result ≡ Torn → IsPartOfFront self.now.kind self.now.bytes.items bytes.now }
+        ensures other { result ≡ Other → IsPartOfFront self.now.kind self.now.bytes.items bytes.now → ⊥ }
+    {
         match self.kind {
             Kind::Keys => match find_keys(&self.bytes, bytes) {
                 Found::Keys => Standing::Kept,
@@ -90,7 +106,9 @@ impl Front {
     }
 
     /// Whether nothing is kept in a file of these bytes: it ends with the front of a session, or within one.
-    pub fn keeps_nothing(&self, bytes: &[u8]) -> bool {
+    pub fn keeps_nothing(&self, bytes: &[u8]) -> bool
+        ensures { IsTrue result → length bytes.now ≤ length self.now.bytes.items }
+    {
         let begins = match self.kind {
             Kind::Keys => FRONT_OF_KEYS,
             Kind::Lines => FRONT_OF_LINES,
@@ -98,6 +116,7 @@ impl Front {
         bytes.len() <= self.bytes.len()
             && (self.standing(bytes) != Standing::Other || bytes.starts_with(begins))
     }
+
     /// Whether what was set aside are lines over another image.
     pub fn is_of_older_lines(&self, kept: &[u8]) -> bool {
         match self.kind {

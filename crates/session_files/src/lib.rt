@@ -10,7 +10,7 @@ mod session_file;
 mod synced_file;
 
 pub use journal::{Journal, LockedJournal, discard};
-pub use journal_front::Front;
+pub use journal_front::{Front, Kind, Standing};
 pub use lines_over::{Place, drop_over, keep_over};
 pub use other_journals::{place_of, refuse_keys, refuse_lines};
 pub use saving::put_behind;
