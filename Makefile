@@ -18,11 +18,11 @@
 # make wasm      builds the C library as WebAssembly, and history.html with it, and tries them in node and in chromium, where these are installed
 # make page      builds history.html anew, of the files in page/ and of that module
 # make memcheck  runs the tests of ropes under valgrind's memcheck, where it is installed
-# make install PREFIX=/usr/local [DESTDIR=..] [PROGRAM=..] [LIBRARY=..]  installs the program that `make run` built, or another, with scripts, man pages
-#                and completions, and the C library, its header and the Python module, where `make library` built them
+# make install PREFIX=/usr/local [DESTDIR=..] [PROGRAM=..] [LIBRARY=..] [SESSIONS=..]  installs the program that `make run` built, or another, with scripts,
+#                man pages and completions, and the C libraries, their headers and the Python module, where `make library` built them
 # make uninstall PREFIX=/usr/local [DESTDIR=..]  takes away what make install put there
-# make deb       makes a package for Debian of what `make run` and `make library` built, or of PROGRAM=.. and LIBRARY=.., in the folder out
-# make installed tries all three in folders of their own, over what is built, or PROGRAM=.. and LIBRARY=..
+# make deb       makes a package for Debian of what `make run` and `make library` built, or of PROGRAM=.., LIBRARY=.. and SESSIONS=.., in the folder out
+# make installed tries all three in folders of their own, over what is built, or PROGRAM=.., LIBRARY=.. and SESSIONS=..
 
 .PHONY: try run library check long hostile fuzz audit bench figures speed instructions refuse callers wasm page memcheck crate install uninstall deb installed
 
@@ -32,6 +32,7 @@ PREFIX = /usr/local
 DESTDIR =
 PROGRAM = crates/cordkit/out/cordkit
 LIBRARY = crates/cord_c/out/libcord_c.a
+SESSIONS = crates/cord_session/out/libcord_session.a
 IMAGES = 2100
 OLD =
 
@@ -108,16 +109,16 @@ memcheck:
 	sh tests/memcheck.sh
 
 install:
-	sh packaging/install.sh install "$(DESTDIR)$(PREFIX)" "$(PROGRAM)" "$(LIBRARY)"
+	sh packaging/install.sh install "$(DESTDIR)$(PREFIX)" "$(PROGRAM)" "$(LIBRARY)" "$(SESSIONS)"
 
 uninstall:
 	sh packaging/install.sh uninstall "$(DESTDIR)$(PREFIX)"
 
 deb:
-	sh packaging/deb.sh "$(PROGRAM)" out "$(LIBRARY)"
+	sh packaging/deb.sh "$(PROGRAM)" out "$(LIBRARY)" "$(SESSIONS)"
 
 installed:
-	sh tests/install.sh "$(PROGRAM)" launcher "$(LIBRARY)" && sh tests/deb.sh "$(PROGRAM)" "$(LIBRARY)"
+	sh tests/install.sh "$(PROGRAM)" launcher "$(LIBRARY)" "$(SESSIONS)" && sh tests/deb.sh "$(PROGRAM)" "$(LIBRARY)" "$(SESSIONS)"
 
 crate:
 	@sh tests/new_crate.sh "$(NAME)" $(DEPS)
