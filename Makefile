@@ -1,6 +1,6 @@
 # make try [IMAGE=..]  checks the stored image, or the one that is named, by the program with no proof: a minute; it keeps no program
 # make run       proves and builds the program, and runs it on the stored image
-# make library   proves and builds the C library, and, where there is a C compiler, a shared one of it for Python
+# make library   proves and builds the C libraries, and, where there is a C compiler, a shared one of each for Python
 # make check     the merge gate: every proof and test, edits that must be refused, of most public functions or of what they call, and the built program
 # make long [OLD=..]  what takes more than a minute and is no proof, over the built program: random images and keys, failing devices, dear refusals;
 #                and, where OLD names a clone at c89b5a8 over which crates/cord_answers and its line of crates.txt were laid, in which
@@ -14,7 +14,7 @@
 # make instructions  counts the instructions of each job, where valgrind is installed, and compares them with bench/instructions.txt
 # make refuse    refuses each allocation of the tests' runs and of the program's in turn, and fails its reads and writes by real devices
 # make crate NAME=.. DEPS=".."  makes the folders and files of a new crate, and its line in crates.txt
-# make callers IMAGES=2100  builds the C library and its callers in C, Rust and Python, and compares their answers with each other and the program's
+# make callers IMAGES=2100  builds the C libraries and their callers in each language, and compares their answers with each other and the program's
 # make wasm      builds the C library as WebAssembly, and history.html with it, and tries them in node and in chromium, where these are installed
 # make page      builds history.html anew, of the files in page/ and of that module
 # make memcheck  runs the tests of ropes under valgrind's memcheck, where it is installed

@@ -136,6 +136,7 @@ static void resume(const char *name) {
     }
     uint32_t code = cord_session_resume(&session, image, len, given, count, &v);
     if (code == CORD_DONE) source_count = count, memcpy(sources, given, sizeof sources);
+    for (size_t k = 0; code != CORD_DONE && k < count; k++) free((void *)given[k].bytes);
     printf("%" PRIu32 " %" PRIu32 " %" PRIu32 " %" PRIu32 "\n", code, v.code, v.revisions, v.rows);
 }
 

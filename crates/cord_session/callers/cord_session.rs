@@ -52,12 +52,15 @@ mod sys {
                 pub fn $end(handle: *mut Handle);
                 pub fn $add_source(handle: *mut Handle, len: u64, source: *mut u32) -> u32;
                 pub fn $len(handle: *mut Handle, x: $number, len: *mut u64) -> u32;
-                pub fn $read(handle: *mut Handle, sources: *const Source, count: usize, x: $number, place: u64, out: *mut u8, len: usize, got: *mut usize) -> u32;
+                pub fn $read(handle: *mut Handle, sources: *const Source, count: usize, x: $number, place: u64, out: *mut u8, len: usize, got: *mut usize)
+                -> u32;
                 pub fn $locate(handle: *mut Handle, x: $number, place: u64, run: *mut Run) -> u32;
-                pub fn $find(handle: *mut Handle, sources: *const Source, count: usize, x: $number, from: u64, pattern: *const u8, len: usize, place: *mut u64) -> u32;
+                pub fn $find(handle: *mut Handle, sources: *const Source, count: usize, x: $number, from: u64, pattern: *const u8, len: usize, place: *mut u64)
+                -> u32;
                 pub fn $chr(handle: *mut Handle, sources: *const Source, count: usize, x: $number, from: u64, byte: u8, place: *mut u64) -> u32;
                 pub fn $rchr(handle: *mut Handle, sources: *const Source, count: usize, x: $number, from: u64, byte: u8, place: *mut u64) -> u32;
-                pub fn $compare(handle: *mut Handle, sources: *const Source, count: usize, x: $number, i: u64, y: $number, j: u64, n: u64, order: *mut u32) -> u32;
+                pub fn $compare(handle: *mut Handle, sources: *const Source, count: usize, x: $number, i: u64, y: $number, j: u64, n: u64, order: *mut u32)
+                -> u32;
             }
         };
     }
