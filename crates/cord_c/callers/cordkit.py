@@ -220,7 +220,7 @@ def _given(sources: Iterable[Source]) -> "Tuple[ctypes.Array[_Source], int]":
     given = []
     for source in sources:
         if isinstance(source, int):
-            given.append(_Source(b"", 0, source))
+            given.append(_Source(b"", 0, _number(source, 64)))
         else:
             text = source if isinstance(source, bytes) else read(source)
             given.append(_Source(text, len(text), len(text)))

@@ -7,7 +7,7 @@
 #include <stdlib.h>
 #include <string.h>
 
-enum { UNTOUCHED = 0xAA, MOST_CHANGES = 5000 };
+enum { UNTOUCHED = 0xAA, MOST_CHANGES = 10000 };
 
 struct bytes {
     uint8_t *at;
@@ -142,19 +142,19 @@ static void resume(const char *name) {
 
 static void carry_out(const char *call) {
     uint64_t answer = UNTOUCHED, from;
-    uint32_t revision;
+    uint32_t revision, code;
     if (!strcmp(call, "begin")) source_count = 0, only(cord_session_begin(&session));
     else if (!strcmp(call, "end")) cord_session_end(&session), only(CORD_DONE);
     else if (!strcmp(call, "source") || !strcmp(call, "length")) add_source(*call == 's');
     else if (!strcmp(call, "save")) save(word());
     else if (!strcmp(call, "resume")) resume(word());
-    else if (!strcmp(call, "len")) revision = narrow(), told(cord_session_len(&session, revision, &answer), answer);
+    else if (!strcmp(call, "len")) code = cord_session_len(&session, narrow(), &answer), told(code, answer);
     else if (!strcmp(call, "read")) revision = narrow(), from = number(), read_part(revision, from, number());
     else if (!strcmp(call, "find")) {
         revision = narrow();
         from = number();
         struct bytes pattern = bytes();
-        uint32_t code = cord_session_find(&session, sources, source_count, revision, from, pattern.at, pattern.len, &answer);
+        code = cord_session_find(&session, sources, source_count, revision, from, pattern.at, pattern.len, &answer);
         told(code, answer);
         free(pattern.at);
     } else apply(call);

@@ -137,7 +137,7 @@ static void resume(cordkit::session &session, std::string &answer) {
 static std::string make_rope(cordkit::store &store, std::vector<cord_rope> &made, const std::string &call) {
     const auto rope = [&] {
         const uint64_t k = number();
-        return k < made.size() ? made[k] : UINT64_MAX - k;
+        return k < made.size() ? made[k] : UINT64_MAX;
     };
     if (call == "depth") return std::to_string(store.depth(rope()));
     if (call == "bytes") made.push_back(store.bytes(bytes()));
@@ -163,7 +163,7 @@ static std::string answer_of(cordkit::session &session, cordkit::store &store, s
     std::string answer;
     const auto rope = [&] {
         const uint64_t k = number();
-        return k < made.size() ? made[k] : UINT64_MAX - k;
+        return k < made.size() ? made[k] : UINT64_MAX;
     };
     if (owner == "t") return ask(store, call, rope, answer) ? answer : make_rope(store, made, call);
     if (ask(session, call, narrow, answer)) return answer;
