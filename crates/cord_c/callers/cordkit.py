@@ -137,7 +137,10 @@ class Error(Exception):
 
     def __init__(self, code: int, line: Optional[str] = None) -> None:
         self.code = Code(code)
-        super().__init__(line or f"CORD_{self.code.name} ({self.code.value}): {self.code.__doc__}")
+        self._line = line or f"CORD_{self.code.name} ({self.code.value}): {self.code.__doc__}"
+
+    def __str__(self) -> str:
+        return self._line
 
 
 class Missing(Error, IndexError):

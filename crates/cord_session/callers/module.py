@@ -3,6 +3,7 @@
 C; errors; a session that is closed, or asked on another thread; files that are saved. The last line is 'N passed, M failed'."""
 
 import os
+import pickle
 import random
 import sys
 import tempfile
@@ -112,6 +113,15 @@ def refusal_is_index_error(session):
     return False
 
 
+def try_errors():
+    """What an error says, also where it came from another process."""
+    for error in cordkit.Error(13), cordkit.Missing(39), cordkit.NotHeld(), cordkit.Refused("refused C2"):
+        again = pickle.loads(pickle.dumps(error))
+        same(f"{error!r}, sent", (type(again), again.code, str(again)), (type(error), error.code, str(error)))
+    range_line = "CORD_RANGE (13): a place or a span is not inside its text, or changes are out of order"
+    same("what an error says", (str(cordkit.Error(13)), str(cordkit.Refused("refused C2"))), (range_line, "refused C2"))
+
+
 def on_another_thread(call):
     told = []
     thread = threading.Thread(target=lambda: told.append(refusal(call)))
@@ -172,6 +182,7 @@ def main():
     for seed in range(20):
         try_ropes(random.Random(seed))
         try_session(random.Random(seed))
+    try_errors()
     try_threads()
     try_files()
     try_codes()
