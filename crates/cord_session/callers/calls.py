@@ -79,7 +79,7 @@ class Callers:
             self.session = cordkit.Session.resume(words[0], sources)
         except cordkit.Refused as refused:
             return f"{int(refused.code)} {refused.verdict.code} 0 0"
-        counts = cordkit.Image(words[0], sources).counts
+        counts = cordkit.check(cordkit.read(words[0]), sources)
         return f"0 0 {counts.revisions} {counts.rows}"
 
     def store_call(self, call, words):

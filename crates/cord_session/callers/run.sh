@@ -101,11 +101,9 @@ prints() {
 }
 shows() {
     [ -x "$program" ] || return
-    printf '%s\n' "$1" > wanted
+    wanted=$1
     shift
-    "$program" show "$@" > shown 2>&1
-    echo >> shown
-    try cmp shown wanted
+    try test "$("$program" show "$@" 2>&1)" = "$wanted"
 }
 
 build ropes "$here/ropes.c"
@@ -140,7 +138,7 @@ if has rustc 'the wrapper for Rust'; then
     printf 'one\ntwo\n' > notes.txt
     build_rust notes notes.rs
     prints 4 ./notes
-    shows "$(printf 'one\nand two\n.')" notes.cord last notes.txt
+    shows "$(printf 'one\nand two')" notes.cord last notes.txt
     build_rust owning_rust "$here/owning.rs"
     try ./owning_rust
     try refuses sent E0277
