@@ -1,6 +1,6 @@
 # make try [IMAGE=..]  checks the stored image, or the one that is named, by the program with no proof: a minute; it keeps no program
 # make run       proves and builds the program, and runs it on the stored image
-# make library   proves and builds the C library, and, where there is a C compiler, a shared one of it for Python
+# make library   proves and builds the C libraries, and, where there is a C compiler, a shared one of each for Python
 # make check     the merge gate: every proof and test, edits that must be refused, of most public functions or of what they call, and the built program
 # make long [OLD=..]  what takes more than a minute and is no proof, over the built program: random images and keys, failing devices, dear refusals;
 #                and, where OLD names a clone at c89b5a8 over which crates/cord_answers and its line of crates.txt were laid, in which
@@ -14,15 +14,15 @@
 # make instructions  counts the instructions of each job, where valgrind is installed, and compares them with bench/instructions.txt
 # make refuse    refuses each allocation of the tests' runs and of the program's in turn, and fails its reads and writes by real devices
 # make crate NAME=.. DEPS=".."  makes the folders and files of a new crate, and its line in crates.txt
-# make callers IMAGES=2100  builds the C library and its callers in C, Rust and Python, and compares their answers with each other and the program's
+# make callers IMAGES=2100  builds the C libraries and their callers in each language, and compares their answers with each other and the program's
 # make wasm      builds the C library as WebAssembly, and history.html with it, and tries them in node and in chromium, where these are installed
 # make page      builds history.html anew, of the files in page/ and of that module
 # make memcheck  runs the tests of ropes under valgrind's memcheck, where it is installed
-# make install PREFIX=/usr/local [DESTDIR=..] [PROGRAM=..] [LIBRARY=..]  installs the program that `make run` built, or another, with scripts, man pages
-#                and completions, and the C library, its header and the Python module, where `make library` built them
+# make install PREFIX=/usr/local [DESTDIR=..] [PROGRAM=..] [LIBRARY=..] [SESSIONS=..]  installs the program that `make run` built, or another, with scripts,
+#                man pages and completions, and the C libraries, their headers and the Python module, where `make library` built them
 # make uninstall PREFIX=/usr/local [DESTDIR=..]  takes away what make install put there
-# make deb       makes a package for Debian of what `make run` and `make library` built, or of PROGRAM=.. and LIBRARY=.., in the folder out
-# make installed tries all three in folders of their own, over what is built, or PROGRAM=.. and LIBRARY=..
+# make deb       makes a package for Debian of what `make run` and `make library` built, or of PROGRAM=.., LIBRARY=.. and SESSIONS=.., in the folder out
+# make installed tries all three in folders of their own, over what is built, or PROGRAM=.., LIBRARY=.. and SESSIONS=..
 
 .PHONY: try run library check long hostile fuzz audit bench figures speed instructions refuse callers wasm page memcheck crate install uninstall deb installed
 
@@ -32,6 +32,7 @@ PREFIX = /usr/local
 DESTDIR =
 PROGRAM = crates/cordkit/out/cordkit
 LIBRARY = crates/cord_c/out/libcord_c.a
+SESSIONS = crates/cord_session/out/libcord_session.a
 IMAGES = 2100
 OLD =
 
@@ -105,16 +106,16 @@ memcheck:
 	sh tests/memcheck.sh
 
 install:
-	sh packaging/install.sh install "$(DESTDIR)$(PREFIX)" "$(PROGRAM)" "$(LIBRARY)"
+	sh packaging/install.sh install "$(DESTDIR)$(PREFIX)" "$(PROGRAM)" "$(LIBRARY)" "$(SESSIONS)"
 
 uninstall:
 	sh packaging/install.sh uninstall "$(DESTDIR)$(PREFIX)"
 
 deb:
-	sh packaging/deb.sh "$(PROGRAM)" out "$(LIBRARY)"
+	sh packaging/deb.sh "$(PROGRAM)" out "$(LIBRARY)" "$(SESSIONS)"
 
 installed:
-	sh tests/install.sh "$(PROGRAM)" launcher "$(LIBRARY)" && sh tests/deb.sh "$(PROGRAM)" "$(LIBRARY)"
+	sh tests/install.sh "$(PROGRAM)" launcher "$(LIBRARY)" "$(SESSIONS)" && sh tests/deb.sh "$(PROGRAM)" "$(LIBRARY)" "$(SESSIONS)"
 
 crate:
 	@sh tests/new_crate.sh "$(NAME)" $(DEPS)

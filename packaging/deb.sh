@@ -1,6 +1,6 @@
 #!/bin/sh
-# deb.sh [PROGRAM [FOLDER [LIBRARY]]]: makes a package for Debian, by dpkg-deb, of the program that `make run` built or of PROGRAM, with what make
-# install puts beside it, the C library among it where that is built. The package, cordkit_VERSION_ARCHITECTURE.deb, comes into the folder out, or
+# deb.sh [PROGRAM [FOLDER [LIBRARY [SESSIONS]]]]: makes a package for Debian, by dpkg-deb, of the program that `make run` built or of PROGRAM, with what
+# make install puts beside it, the C libraries among it where they are built. The package, cordkit_VERSION_ARCHITECTURE.deb, comes into the folder out, or
 # FOLDER, and its path is printed. The version is that of CHANGELOG.md. Its times are those of the last commit, or of CHANGELOG.md where there is no
 # git, so that a package made twice is the same.
 set -eu
@@ -8,6 +8,7 @@ umask 022
 program=${1:-}
 folder=${2:-}
 library=${3:-}
+sessions=${4:-}
 case $program in
 "" | /*) ;;
 *) program=$PWD/$program ;;
@@ -20,6 +21,10 @@ case $library in
 "" | /*) ;;
 *) library=$PWD/$library ;;
 esac
+case $sessions in
+"" | /*) ;;
+*) sessions=$PWD/$sessions ;;
+esac
 cd "$(dirname "$0")/.."
 folder=${folder:-out}
 room=$(mktemp -d)
@@ -29,7 +34,7 @@ if ! command -v dpkg-deb > /dev/null; then
     echo "there is no dpkg-deb here" >&2
     exit 1
 fi
-sh packaging/install.sh install "$room/package/usr" "$program" "$library" >&2
+sh packaging/install.sh install "$room/package/usr" "$program" "$library" "$sessions" >&2
 rm "$room/package/usr/lib/cordkit/folders"
 
 # Debian's zsh looks for the completions of packages in a folder of its own.
@@ -86,6 +91,7 @@ find "$room/package/usr/share/man" "$documents/changelog" -type f -exec gzip -9n
     echo " checker, in python, come with it, lines by which vim and kakoune keep every"
     echo " saved state of a file, and manual pages: begin with cordkit-start(7)."
     [ -z "$beside" ] || echo " The checker also comes as a library $beside."
+    [ ! -f "$room/package/usr/lib/libcord_session.a" ] || echo " Ropes and sessions come as another one, for editors."
 } > "$room/package/DEBIAN/control"
 (cd "$room/package" && find usr -type f | sort | xargs md5sum) > "$room/package/DEBIAN/md5sums"
 mkdir -p "$folder"

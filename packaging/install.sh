@@ -1,17 +1,18 @@
 #!/bin/sh
-# install.sh install|uninstall ROOT [PROGRAM [LIBRARY]]: puts cordkit and what belongs to it below the folder ROOT, or takes it away from there.
-# PROGRAM is the program, where it is not the one that `make run` built, and LIBRARY the C library, where it is not the one that `make library`
-# built; where there is none, that is told, and all else is installed. Each folder that install had to make is noted in lib/cordkit/folders, so
-# that uninstall leaves none of them, and takes away none of anybody else's.
+# install.sh install|uninstall ROOT [PROGRAM [LIBRARY [SESSIONS]]]: puts cordkit and what belongs to it below the folder ROOT, or takes it away from
+# there. PROGRAM is the program, where it is not the one that `make run` built, and LIBRARY and SESSIONS the C libraries of the checker and of
+# sessions, where they are not those that `make library` built; where there is none, that is told, and all else is installed. Each folder that install
+# had to make is noted in lib/cordkit/folders, so that uninstall leaves none of them, and takes away none of anybody else's.
 set -eu
 umask 022
 task=${1:-}
 root=${2:-}
 program=${3:-}
 library=${4:-}
+sessions=${5:-}
 
 usage() {
-    echo "usage: install.sh install|uninstall ROOT [PROGRAM [LIBRARY]]" >&2
+    echo "usage: install.sh install|uninstall ROOT [PROGRAM [LIBRARY [SESSIONS]]]" >&2
     exit 2
 }
 
@@ -30,10 +31,16 @@ case $library in
 "" | /*) ;;
 *) library=$PWD/$library ;;
 esac
+case $sessions in
+"" | /*) ;;
+*) sessions=$PWD/$sessions ;;
+esac
 cd "$(dirname "$0")/.."
 program=${program:-crates/cordkit/out/cordkit}
 library=${library:-crates/cord_c/out/libcord_c.a}
 shared=${library%.a}.so
+sessions=${sessions:-crates/cord_session/out/libcord_session.a}
+shared_sessions=${sessions%.a}.so
 noted=$root/lib/cordkit/folders
 
 # Each file: its mode, its place below the root, and where it stands here.
@@ -69,7 +76,7 @@ cordkit-commit docs/COMMIT.md
 cordkit-editor docs/EDITOR.md
 cordkit-faq docs/FAQ.md"
 
-# Those of the C library, and those of the Python module, which loads it.
+# Those of the C libraries, and those of the Python module, which loads them.
 c_files="644 lib/libcord_c.a $library
 644 include/cordkit/cord.h crates/cord_c/cord.h
 644 include/cord.h packaging/cord.h
@@ -78,6 +85,14 @@ c_files="644 lib/libcord_c.a $library
 python_files="644 lib/cordkit/python/cordkit/__init__.py crates/cord_c/callers/cordkit.py
 644 lib/cordkit/python/cordkit/libcord_c.so $shared
 755 share/doc/cordkit/examples/check_many.py examples/check_many.py"
+session_files="644 lib/libcord_session.a $sessions
+644 include/cordkit/cord.h crates/cord_c/cord.h
+644 include/cordkit/cord_session.h crates/cord_session/cord_session.h
+644 include/cordkit/cord_session.hpp crates/cord_session/cord_session.hpp
+644 lib/pkgconfig/cordkit-session.pc packaging/cordkit-session.pc
+644 share/doc/cordkit/examples/cord_session.rs crates/cord_session/callers/cord_session.rs
+644 share/doc/cordkit/examples/line_editor.c examples/line_editor.c"
+python_session_files="644 lib/cordkit/python/cordkit/libcord_session.so $shared_sessions"
 
 page_files="644 share/cordkit/history.html crates/cord_c/out/history.html"
 
@@ -109,6 +124,10 @@ put_all() {
     fi
     add 'the C library' "$library" "$c_files"
     add 'the Python module' "$shared" "$python_files"
+    add 'the C library of sessions' "$sessions" "$session_files"
+    if [ -f "$shared" ]; then
+        add 'sessions in the Python module' "$shared_sessions" "$python_session_files"
+    fi
     add 'the page' crates/cord_c/out/history.html "$page_files" wasm
     made=$(printf '%s\n' "$files" "644 share/man/man7/page" | while read -r mode place source; do make_folder "$(dirname "$place")"; done)
     if [ -n "$made" ]; then
@@ -121,10 +140,12 @@ put_all() {
     echo "$pages" | while read -r name source; do
         awk -v name="$name" -v date="$date" -f packaging/page.awk "$source" > "$root/share/man/man7/$name.7"
     done
-    if [ -f "$library" ]; then
-        version=$(sh packaging/version.sh)
-        sed "s/@version@/${version%~*}/" packaging/cordkit.pc > "$root/lib/pkgconfig/cordkit.pc"
-    fi
+    version=$(sh packaging/version.sh)
+    for described in cordkit cordkit-session; do
+        if [ -f "$root/lib/pkgconfig/$described.pc" ]; then
+            sed "s/@version@/${version%~*}/" "packaging/$described.pc" > "$root/lib/pkgconfig/$described.pc"
+        fi
+    done
 }
 
 # A folder that something else came to lie in stays.
@@ -133,7 +154,7 @@ take_all_away() {
     if [ -f "$noted" ]; then
         made=$(sed '1!G; h; $!d' "$noted")
     fi
-    printf '%s\n' "$files" "$c_files" "$python_files" "$page_files" | while read -r mode place source; do
+    printf '%s\n' "$files" "$c_files" "$python_files" "$session_files" "$python_session_files" "$page_files" | while read -r mode place source; do
         rm -f "$root/$place"
     done
     echo "$pages" | while read -r name source; do

@@ -1,11 +1,12 @@
 #!/bin/sh
-# Makes the package for Debian twice, of the built program or of the one that $1 names, and of the C library or that of $2, and tries it: dpkg installs
+# Makes the package for Debian twice, of the built program or of the one that $1 names, and of the C libraries or those of $2 and $3, and tries it: dpkg installs
 # it into a folder of its own, the launcher's rows of tests/program.sh and the Python module run there, and dpkg takes it away again. What cannot be
 # tried here is told. The last line is 'N passed, M failed'; the status is not 0 where a case failed.
 set -u
 top=$(cd "$(dirname "$0")/.." && pwd)
 program=${1:-$top/crates/cordkit/out/cordkit}
 library=${2:-$top/crates/cord_c/out/libcord_c.a}
+sessions=${3:-$top/crates/cord_session/out/libcord_session.a}
 case $program in
 /*) ;;
 *) program=$PWD/$program ;;
@@ -13,6 +14,10 @@ esac
 case $library in
 /*) ;;
 *) library=$PWD/$library ;;
+esac
+case $sessions in
+/*) ;;
+*) sessions=$PWD/$sessions ;;
 esac
 PATH=$PATH:/usr/sbin:/sbin
 for tool in dpkg dpkg-deb; do
@@ -68,6 +73,8 @@ try_package() {
     if [ -d "$room/root/usr/lib/python3/dist-packages/cordkit" ] && command -v python3 > /dev/null; then
         is_same 'python loads its module' "$(PYTHONPATH=$room/root/usr/lib/python3/dist-packages python3 -c \
             'import cordkit, sys; print(cordkit.check(cordkit.read(sys.argv[1])))' "$top/crates/cordkit/stdin")" "$(cat "$top/crates/cordkit/stdout")"
+        [ ! -f "${sessions%.a}.so" ] || is_same 'with sessions' "$(PYTHONPATH=$room/root/usr/lib/python3/dist-packages python3 -c \
+            'import cordkit; s = cordkit.Session(); print(bytes(s[s.insert(s.new(), 0, b"fox")]))')" "b'fox'"
     else
         echo "LEFT OUT: the package's Python module: it has none, or there is no python3 here"
     fi
@@ -75,13 +82,15 @@ try_package() {
     is_same 'nothing of it is left' "$(left)" '. ./var ./var/lib '
 }
 
-package=$(sh "$top/packaging/deb.sh" "$program" "$room" "$library") || exit 1
-again=$(sh "$top/packaging/deb.sh" "$program" "$room/again" "$library" 2> /dev/null) || exit 1
+package=$(sh "$top/packaging/deb.sh" "$program" "$room" "$library" "$sessions") || exit 1
+again=$(sh "$top/packaging/deb.sh" "$program" "$room/again" "$library" "$sessions" 2> /dev/null) || exit 1
 is_same 'made twice, it is the same' "$(sha256sum < "$package")" "$(sha256sum < "$again")"
 version=$(dpkg-deb -f "$package" Version)
 is_same 'its version is that of CHANGELOG.md' "$(grep -c "^## ${version%~unreleased} (" "$top/CHANGELOG.md")" 1
 is_same 'its description names the library where it has one' "$(dpkg-deb -f "$package" Description | grep -c 'as a library for C')" \
     "$(dpkg-deb -c "$package" | grep -c 'lib/libcord_c\.a$')"
+is_same 'and the library of sessions too' "$(dpkg-deb -f "$package" Description | grep -c 'Ropes and sessions come as another one')" \
+    "$(dpkg-deb -c "$package" | grep -c 'lib/libcord_session\.a$')"
 if [ -n "$as_root" ] && ! command -v fakeroot > /dev/null; then
     echo "LEFT OUT: its installation: there is no fakeroot here"
 else

@@ -1,7 +1,7 @@
 #!/bin/sh
 # Installs the built program, or the one that $1 names, with what belongs to it into folders of its own, and tries what lies there: the launcher,
 # on the rows of tests/program.sh that are for it, or on all of them where $2 is `all`; the editor, by the cases of tests/kept_keys.sh that need no
-# terminal, or by all of them and tests/terminal.sh; the C library, or that of $3, and the Python module, by the
+# terminal, or by all of them and tests/terminal.sh; the C libraries, or those of $3 and $4, and the Python module, by the
 # programs of docs/C_LIBRARY.md; every example of the manual pages; the manual pages, the completions and the magic, each by its own tool; and that
 # uninstall leaves nothing. What cannot be tried here is told. The last line is 'N passed, M failed'; the status is not 0 where a case failed.
 set -u
@@ -9,6 +9,7 @@ top=$(cd "$(dirname "$0")/.." && pwd)
 program=${1:-$top/crates/cordkit/out/cordkit}
 cases=${2:-launcher}
 library=${3:-$top/crates/cord_c/out/libcord_c.a}
+sessions=${4:-$top/crates/cord_session/out/libcord_session.a}
 case $program in
 /*) ;;
 *) program=$PWD/$program ;;
@@ -16,6 +17,10 @@ esac
 case $library in
 /*) ;;
 *) library=$PWD/$library ;;
+esac
+case $sessions in
+/*) ;;
+*) sessions=$PWD/$sessions ;;
 esac
 if ! [ -x "$program" ]; then
     echo "there is no program $program" >&2
@@ -70,7 +75,7 @@ has_terminal() {
 }
 
 make_it() {
-    make -s -C "$top" LIBRARY="$library" "$@" > "$room/made" 2>&1
+    make -s -C "$top" LIBRARY="$library" SESSIONS="$sessions" "$@" > "$room/made" 2>&1
 }
 
 # What lies below a folder, if there is one.
@@ -126,6 +131,18 @@ wanted_files() {
 644 lib/cordkit/python/cordkit/libcord_c.so
 755 share/doc/cordkit/examples/check_many.py'
     fi
+    if [ -f "$sessions" ]; then
+        echo '644 include/cordkit/cord_session.h
+644 include/cordkit/cord_session.hpp
+644 lib/libcord_session.a
+644 lib/pkgconfig/cordkit-session.pc
+644 share/doc/cordkit/examples/cord_session.rs
+644 share/doc/cordkit/examples/line_editor.c'
+        [ -f "$library" ] || echo '644 include/cordkit/cord.h'
+    fi
+    if [ -f "${library%.a}.so" ] && [ -f "${sessions%.a}.so" ]; then
+        echo '644 lib/cordkit/python/cordkit/libcord_session.so'
+    fi
 }
 
 try_installing() {
@@ -140,10 +157,11 @@ try_installing() {
     is_same 'a staged installation has the same files' "$(below "$room/stage/usr")" "$(below "$prefix")"
     make_it uninstall DESTDIR="$room/stage" PREFIX=/usr
     is_same 'nothing of it is left' "$(below "$room/stage")" .
-    make_it install PREFIX="$room/bare" PROGRAM="$program" LIBRARY="$room/missing.a"
+    make_it install PREFIX="$room/bare" PROGRAM="$program" LIBRARY="$room/missing.a" SESSIONS="$room/none.a"
     is_same 'without a C library it is told how to build one, and all else is installed' \
         "$(grep -c 'LEFT OUT: .*: make library builds it' "$room/made") $(cd "$room/bare" && find . -type f | sort)" \
-        "2 $(cd "$prefix" && find . -type f | grep -v -e /cord.h -e /libcord_c -e /pkgconfig/ -e /python/ -e /check_many.py -e /cord.rs | sort)"
+        "3 $(cd "$prefix" && find . -type f | grep -v -e /include/ -e /libcord_ -e /pkgconfig/ -e /python/ -e /check_many.py -e /cord.rs -e /cord_session.rs \
+            -e /line_editor.c | sort)"
     make_it uninstall PREFIX="$room/bare"
     is_same 'nothing of that is left' "$(below "$room/bare")" ''
 }
@@ -195,10 +213,14 @@ block_of() {
         on && !/^```/' "$top/docs/C_LIBRARY.md"
 }
 
+version_of_changes() {
+    sed -n 's/^## \([0-9.]*\) (.*/\1/p' "$top/CHANGELOG.md" | head -n 1
+}
+
 try_c_library() {
     has gcc 'the installed C library' && has pkg-config 'the installed C library' || return
     export PKG_CONFIG_PATH="$prefix/lib/pkgconfig"
-    is_same 'the version of the C library' "$(pkg-config --modversion cordkit)" "$(sed -n 's/^## \([0-9.]*\) (.*/\1/p' "$top/CHANGELOG.md" | head -n 1)"
+    is_same 'the version of the C library' "$(pkg-config --modversion cordkit)" "$(version_of_changes)"
     block_of c 1 > newest.c
     if eval "gcc -std=c11 -Wall -Wextra -pedantic -Werror -o newest newest.c $(pkg-config --cflags --libs cordkit)" > log 2>&1; then
         is_same 'the program in C' "$(./newest < fox.cord)" 'the brown fox'
@@ -239,6 +261,73 @@ try_python_module() {
     has python3 'the installed Python module' || return
     block_of python 1 > newest.py
     is_same 'the program in Python' "$(PYTHONPATH="$prefix/lib/cordkit/python" python3 newest.py fox.cord 2>&1)" "$(block_of text 1)"
+    [ -f "${sessions%.a}.so" ] || return
+    block_of python 2 > dogs.py
+    is_same 'the second program in Python' "$(PYTHONPATH="$prefix/lib/cordkit/python" python3 dogs.py 2>&1)" "$(block_of text 5)"
+    is_same 'its image' "$("$prefix/bin/cordkit" check dogs.cord)" "$("$prefix/bin/cordkit-verify" dogs.cord)"
+}
+
+# A program that links both libraries: it begins a session, saves it, and checks the image.
+both_libraries() {
+    cat << 'BOTH'
+#include <cordkit/cord.h>
+#include <cordkit/cord_session.h>
+#include <stdio.h>
+
+int main(void) {
+    struct cord_session session = CORD_SESSION_NONE;
+    struct cord_command fresh = {.code = CORD_COMMAND_NEW, .bytes = cord_nothing, .changes = cord_no_changes};
+    struct cord_verdict verdict;
+    uint8_t image[1000];
+    uint64_t len;
+    size_t got;
+    uint32_t revision;
+    if (cord_session_begin(&session) || cord_session_apply(&session, &fresh, &revision) || cord_session_save(&session, &len)) return 3;
+    if (cord_session_saved(&session, 0, image, sizeof image, &got) || got != len) return 3;
+    cord_session_end(&session);
+    bool is_accepted = cord_check(image, got, cord_no_sources, 0, &verdict);
+    printf("%s %u\n", is_accepted ? "accepted" : "refused", (unsigned)verdict.revisions);
+    return 0;
+}
+BOTH
+}
+
+try_session_library() {
+    has gcc 'the installed C library of sessions' && has pkg-config 'the installed C library of sessions' || return
+    export PKG_CONFIG_PATH="$prefix/lib/pkgconfig"
+    is_same 'the version of the C library of sessions' "$(pkg-config --modversion cordkit-session)" "$(version_of_changes)"
+    block_of c 2 > fox.c
+    cp "$prefix/share/doc/cordkit/examples/line_editor.c" .
+    for name in fox line_editor; do
+        eval "gcc -std=c11 -Wall -Wextra -pedantic -Werror -o $name $name.c $(pkg-config --cflags --libs cordkit-session)" > log 2>&1 ||
+            fails "$name.c: $(cat log)"
+    done
+    is_same 'the session in C' "$(./fox)" "$(block_of text 2)"
+    is_same 'its image' "$("$prefix/bin/cordkit" show fox.cord)" 'the brown fox'
+    block_of sh 1 > typed
+    is_same 'the line editor' "$(sh ./typed 2>&1)" "$(block_of text 6)"
+    if [ -f "$library" ]; then
+        both_libraries > both.c
+        is_same 'a program with both libraries' \
+            "$(eval "gcc -std=c11 -Wall -Wextra -pedantic -Werror -o both both.c $(pkg-config --cflags --libs cordkit-session cordkit)" 2>&1 && ./both)" 'accepted 1'
+    fi
+    try_wrappers
+}
+
+try_wrappers() {
+    if has g++ 'the installed wrapper for C++'; then
+        block_of cpp 1 > dog.cpp
+        is_same 'the session in C++' \
+            "$(eval "g++ -std=c++17 -Wall -Wextra -pedantic -Werror -o dog dog.cpp $(pkg-config --cflags --libs cordkit-session)" 2>&1 && ./dog)" "$(block_of text 3)"
+        is_same 'its image' "$("$prefix/bin/cordkit" show dog.cord)" 'the brown dog'
+    fi
+    if has rustc 'the installed wrapper for Rust' && [ -f "$library" ]; then
+        block_of rust 1 > notes.rs
+        cp "$prefix/share/doc/cordkit/examples/cord.rs" "$prefix/share/doc/cordkit/examples/cord_session.rs" .
+        printf 'one\ntwo\n' > notes.txt
+        is_same 'the sessions and ropes in Rust' "$(rustc --edition 2021 -D warnings -L native="$prefix/lib" notes.rs 2>&1 && ./notes)" "$(block_of text 4)"
+        is_same 'its image' "$("$prefix/bin/cordkit" show notes.cord last notes.txt)" "$(printf 'one\nand two')"
+    fi
 }
 
 try_library() {
@@ -247,6 +336,7 @@ try_library() {
     printf 'new\ninsert 0 0 "the fox"\ninsert 1 4 "brown "\n' > script
     "$prefix/bin/cordkit" apply script > fox.cord
     if [ -f "$library" ]; then try_c_library; fi
+    if [ -f "$sessions" ]; then try_session_library; fi
     if [ -f "${library%.a}.so" ]; then try_python_module; fi
 }
 

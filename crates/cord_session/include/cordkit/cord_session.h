@@ -1,0 +1,1 @@
+#include "../../cord_session.h"
