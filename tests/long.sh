@@ -14,6 +14,7 @@
 #   the tests of ropes under memcheck                 valgrind, and rt where they are not built
 #   refusals that come behind much work               nothing more
 #   21,000 images by the callers of the C library     the library (make library); gcc, g++, rustc and python3, each for its own
+#   cords of 40 seeds by gc/cord.h over the library   the library; gcc, and gc/cord.h of the package libgc-dev
 #   420 images by the page in a browser               the module (make wasm), chromium and python3
 #   4,000 answers of each group, as at the start      python3; the program cord_answers, and a clone at c89b5a8 with it, which OLD names
 #   every case of tests/program.sh, tests/kept_keys.sh and tests/terminal.sh, installed    tmux for those in a terminal, strace for a session that
@@ -67,6 +68,11 @@ if [ -f crates/cord_c/out/libcord_c.a ]; then
     try 'the callers of the C library' '' sh crates/cord_c/callers/run.sh 21000
 else
     echo "NOT TRIED: the callers of the C library: there is no crates/cord_c/out/libcord_c.a: make library builds it"
+fi
+if [ -f crates/cord_session/out/libcord_session.a ]; then
+    try 'cord.h over the library' '' sh examples/boehm/tests/run.sh 40
+else
+    echo "NOT TRIED: cord.h over the library: there is no crates/cord_session/out/libcord_session.a: make library builds it"
 fi
 if [ -f crates/cord_c/out/cord_c.wasm ]; then
     try 'the page in a browser' 'python3 chromium' python3 tests/browser.py 420

@@ -37,9 +37,9 @@ void must(uint32_t answer);
 /* What a cord leads to that is neither 0 nor a C string. */
 const struct made *made_of(CORD x);
 
-/* The cord of a text of at most SHORT bytes without NUL, and that of a rope, which is x where x is that rope. */
+/* The cord of a text of at most SHORT bytes without NUL, and that of a rope of so many bytes. */
 CORD short_cord(const char *text, size_t len);
-CORD cord_of(cord_rope rope, CORD x);
+CORD cord_of(cord_rope rope, size_t len);
 
 /* The rope of a cord, that of bytes behind a rope, and that of two ropes. */
 cord_rope rope_of(CORD x);

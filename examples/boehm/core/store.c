@@ -71,11 +71,8 @@ CORD short_cord(const char *text, size_t len) {
     return copy;
 }
 
-CORD cord_of(cord_rope rope, CORD x) {
-    uint64_t len;
+CORD cord_of(cord_rope rope, size_t len) {
     char text[SHORT];
-    if (x && !CORD_IS_STRING(x) && made_of(x)->rope == rope) return x;
-    must(cord_store_len(the_store(), rope, &len));
     if (len <= SHORT) {
         copy_rope(rope, 0, text, len);
         if (!memchr(text, '\0', len)) return short_cord(text, len);

@@ -101,11 +101,10 @@ CORD CORD_from_char_star(const char *s) {
     return n == 0 ? CORD_EMPTY : memcpy(kept_room(n + 1), s, n + 1);
 }
 
-/* ---- Files: each is read whole at once, from its first byte on where it can be sought in, and closed. */
+/* ---- Files: each is read at once, to its end, and closed: by eager from where it stands, by the others from its first byte on. */
 
 CORD CORD_from_file_eager(FILE *f) {
     CORD all = CORD_EMPTY;
-    fseek(f, 0, SEEK_SET);
     for (size_t piece = 1024; !feof(f) && !ferror(f); piece = piece < 65536 ? 2 * piece : piece) {
         char *bytes = kept_room(piece + 1);
         size_t n = fread(bytes, 1, piece, f);

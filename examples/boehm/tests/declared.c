@@ -64,6 +64,26 @@ static void test_chars(void) {
     free(string);
 }
 
+/* A comb of 49 characters over 16, and then each cord twice: at the sixteenth time it goes through more than 1,048,576 pieces, none of them balanced,
+ * and is too deep. */
+static void test_many_pieces(void) {
+    enum { COMB = 49, ALL = COMB + 16, TIMES = 18 };
+    static const char comb[] = "abcdefghijklmnopqrstuvwxyzabcdefghijklmnopqrstuvwxyzabcdefghijklm";
+    char one[2] = "";
+    CORD x = CORD_cat(CORD_substr(comb, COMB, 8), comb + COMB + 8), last = x;
+    for (int k = COMB; k-- > 0;) {
+        one[0] = comb[k];
+        x = CORD_cat(one, x);
+    }
+    for (int k = 0; k < TIMES; k++) x = CORD_cat(last = x, x);
+    CHECK(CORD_len(x) == (size_t)ALL << TIMES && CORD_len(last) == CORD_len(x) / 2);
+    for (size_t at = 0; at < CORD_len(last); at += 7919) CHECK(CORD_fetch(x, at) == comb[at % ALL] && CORD_fetch(last, at) == comb[at % ALL]);
+    CORD cords[] = {CORD_balance(x), CORD_cat(x, "!"), CORD_substr(x, 1, CORD_len(x)), CORD_cat(comb, x)};
+    size_t from[] = {0, 0, 1, 0};
+    for (int k = 0; k < 4; k++)
+        for (size_t at = 0; at < CORD_len(last); at += 7919) CHECK(CORD_fetch(cords[k], at) == comb[(at + from[k]) % ALL]);
+}
+
 static void test_extensible(void) {
     CORD_ec ec;
     CORD_ec_init(ec);
@@ -164,6 +184,7 @@ static void test_files(void) {
     for (size_t way = 0; way < 3; way++) {
         FILE *file = tmpfile(), *copy = tmpfile(), *empty = tmpfile();
         CHECK(file && copy && empty && fwrite(bytes, 1, SIZE, file) == SIZE && fflush(file) == 0);
+        if (way == 1) rewind(file);
         CORD x = readers[way](file);
         CHECK(CORD_len(x) == SIZE && CORD_fetch(x, 12345) == bytes[12345] && readers[way](empty) == CORD_EMPTY);
         CHECK(CORD_put(x, copy) == 1 && ftell(copy) == SIZE);
@@ -172,6 +193,8 @@ static void test_files(void) {
     }
     FILE *text = tmpfile();
     CHECK(text && fputs(sixty, text) >= 0 && fflush(text) == 0 && is_text(CORD_from_file(text), sixty));
+    text = tmpfile();
+    CHECK(text && fputs(sixty, text) >= 0 && fseek(text, 31, SEEK_SET) == 0 && is_text(CORD_from_file_eager(text), sixty + 31));
     FILE *full = fopen("/dev/full", "w");
     CHECK(full && setvbuf(full, NULL, _IONBF, 0) == 0 && CORD_put(sixty_cord(), full) == EOF && CORD_fprintf(full, "%d", 5) == -1);
     fclose(full);
@@ -335,6 +358,7 @@ static void test_children(void) {
 int main(void) {
     test_making();
     test_chars();
+    test_many_pieces();
     test_extensible();
     test_walks();
     test_positions();

@@ -47,13 +47,14 @@ try sh "$here/../build.sh" .
 printf '#include <gc/cord.h>\n#include <gc/ec.h>\n' > headers.c
 gcc -E -P headers.c | grep -o 'CORD_[A-Za-z0-9_]* *(\|CORD_oom_fn' | tr -d ' (' | sort -u > declared.txt
 gcc -E -dM headers.c | sed -n 's/^#define \(CORD_[A-Za-z0-9_]*\)(.*/\1/p' | sort -u > macros.txt
-for object in core extras; do nm -g --defined-only "$object.o" | sed 's/.* //' | sort > "$object.txt"; done
+for object in core extras; do nm -g --defined-only "$object.o" | sed 's/.* //' | grep '^[A-Za-z]' | sort > "$object.txt"; done
 try test "$(wc -l < declared.txt)" -ge 46 -a "$(wc -l < macros.txt)" -ge 16
 sort core.txt extras.txt > defined.txt
 try diff declared.txt defined.txt
 nm -u extras.o | sed 's/.* //' | grep '^[Cc][Oo][Rr][Dd]' | sort > wanted.txt
 try test "$(comm -23 wanted.txt core.txt)" = ''
-for name in $(cat declared.txt macros.txt); do try grep -q "\<$name\>" "$here/declared.c"; done
+sort declared.txt macros.txt > names.txt
+while read -r name; do try grep -q "\<$name\>" "$here/declared.c"; done < names.txt
 
 build plain "$here/plain.c" libcord.a
 build declared "$here/declared.c" libcord.a -Wno-pedantic
@@ -79,7 +80,10 @@ while [ "$seed" -le "$seeds" ]; do
     seed=$((seed + 1))
 done
 case ${CFLAGS:-} in
-*sanitize*) echo "LEFT OUT: refusals of malloc: a sanitizer has a malloc of its own" ;;
+*sanitize*)
+    echo "LEFT OUT: refusals of malloc, and the collector's programs: a sanitizer has a malloc of its own"
+    GC_SOURCE=
+    ;;
 *) try ./refused ;;
 esac
 if command -v valgrind > /dev/null && [ -z "${CFLAGS:-}" ]; then
