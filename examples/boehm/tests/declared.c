@@ -30,6 +30,13 @@ static void test_making(void) {
     memset(mutable, '!', sizeof mutable - 1);
     CHECK(is_text(x, "a text that is altered behind the call") && is_text(y, "say: a text that is altered behind the call"));
     CHECK(is_text(z, "a text that is altered behind the call"));
+    char big[1001] = "";
+    x = CORD_cat(memset(big, 'x', 1000), sixty_cord());
+    y = CORD_cat(memset(big, 'y', 1000), sixty_cord());
+    z = CORD_cat(big, CORD_substr(big, 500, 300));
+    memset(big, 'z', 1000);
+    CHECK(CORD_len(x) == 1060 && CORD_chr(x, 0, 't') == 1000 && CORD_fetch(x, 999) == 'x' && CORD_fetch(y, 0) == 'y' && CORD_fetch(y, 999) == 'y');
+    CHECK(CORD_len(z) == 1300 && CORD_fetch(z, 0) == 'y' && CORD_rchr(z, 1299, 'y') == 1299 && CORD_chr(z, 0, 'z') == CORD_NOT_FOUND);
     CHECK(CORD_from_char_star("") == CORD_EMPTY && CORD_len(CORD_EMPTY) == 0 && CORD_len("abc") == 3);
     CHECK(is_text(CORD_cat("abc", "def"), "abcdef") && is_text(CORD_cat(sixty_cord(), CORD_EMPTY), sixty));
     CHECK(CORD_cat(CORD_EMPTY, CORD_EMPTY) == CORD_EMPTY && is_text(CORD_cat(CORD_EMPTY, "abc"), "abc"));
