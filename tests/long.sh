@@ -69,10 +69,12 @@ if [ -f crates/cord_c/out/libcord_c.a ]; then
 else
     echo "NOT TRIED: the callers of the C library: there is no crates/cord_c/out/libcord_c.a: make library builds it"
 fi
-if [ -f crates/cord_session/out/libcord_session.a ]; then
-    try 'cord.h over the library' '' sh examples/boehm/tests/run.sh 40
-else
+if ! [ -f crates/cord_session/out/libcord_session.a ]; then
     echo "NOT TRIED: cord.h over the library: there is no crates/cord_session/out/libcord_session.a: make library builds it"
+elif ! echo '#include <gc/cord.h>' | gcc -E - > /dev/null 2>&1; then
+    echo "NOT TRIED: cord.h over the library: there is no gcc here, or no gc/cord.h"
+else
+    try 'cord.h over the library' '' sh examples/boehm/tests/run.sh 40
 fi
 if [ -f crates/cord_c/out/cord_c.wasm ]; then
     try 'the page in a browser' 'python3 chromium' python3 tests/browser.py 420

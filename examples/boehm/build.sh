@@ -11,6 +11,10 @@ if ! [ -f "$library" ]; then
     echo "there is no library $library: make library builds it" >&2
     exit 1
 fi
+if ! echo '#include <gc/cord.h>' | "$compiler" -E - > /dev/null 2>&1; then
+    echo "there is no compiler $compiler, or no gc/cord.h: the package libgc-dev has it" >&2
+    exit 1
+fi
 mkdir -p "$out"
 out=$(cd "$out" && pwd)
 room=$(mktemp -d)
