@@ -15,6 +15,7 @@
 # make refuse    refuses each allocation of the tests' runs and of the program's in turn, and fails its reads and writes by real devices
 # make crate NAME=.. DEPS=".."  makes the folders and files of a new crate, and its line in crates.txt
 # make callers IMAGES=2100  builds the C libraries and their callers in each language, and compares their answers with each other and the program's
+# make boehm     builds the C library, and cord.h of the collector's over it, in examples/boehm/out, and tries that beside plain arrays
 # make wasm      builds the C library as WebAssembly, and history.html with it, and tries them in node and in chromium, where these are installed
 # make page      builds history.html anew, of the files in page/ and of that module
 # make memcheck  runs the tests of ropes under valgrind's memcheck, where it is installed
@@ -24,7 +25,7 @@
 # make deb       makes a package for Debian of what `make run` and `make library` built, or of PROGRAM=.., LIBRARY=.. and SESSIONS=.., in the folder out
 # make installed tries all three in folders of their own, over what is built, or PROGRAM=.., LIBRARY=.. and SESSIONS=..
 
-.PHONY: try run library check long hostile fuzz audit bench figures speed instructions refuse callers wasm page memcheck crate install uninstall deb installed
+.PHONY: try run library check long hostile fuzz audit bench figures speed instructions refuse callers boehm wasm page memcheck crate install uninstall deb installed
 
 IMAGE = crates/cordkit/stdin
 MINUTES = 10
@@ -95,6 +96,10 @@ refuse:
 callers: library
 	sh crates/cord_c/callers/run.sh $(IMAGES) "$(PROGRAM)"
 	sh crates/cord_session/callers/run.sh 6 "$(PROGRAM)"
+
+boehm: library
+	sh examples/boehm/build.sh
+	sh examples/boehm/tests/run.sh
 
 wasm:
 	sh crates/cord_c/wasm.sh

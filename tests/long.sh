@@ -15,6 +15,7 @@
 #   refusals that come behind much work               nothing more
 #   21,000 images by the callers of the C library     the library (make library); gcc, g++, rustc and python3, each for its own
 #   600 sessions and 600 stores by its callers         the library (make library); gcc, g++, rustc, python3 and valgrind, each for its own
+#   cords of 40 seeds by gc/cord.h over the library   the library; gcc, and gc/cord.h of the package libgc-dev
 #   420 images by the page in a browser               the module (make wasm), chromium and python3
 #   4,000 answers of each group, as at the start      python3; the program cord_answers, and a clone at c89b5a8 with it, which OLD names
 #   every case of tests/program.sh, tests/kept_keys.sh and tests/terminal.sh, installed    tmux for those in a terminal, strace for a session that
@@ -74,6 +75,13 @@ if [ -f crates/cord_session/out/libcord_session.a ]; then
     try 'the callers of the library of sessions' '' sh crates/cord_session/callers/run.sh 60
 else
     echo "NOT TRIED: the callers of the library of sessions: there is no crates/cord_session/out/libcord_session.a: make library builds it"
+fi
+if ! [ -f crates/cord_session/out/libcord_session.a ]; then
+    echo "NOT TRIED: cord.h over the library: there is no crates/cord_session/out/libcord_session.a: make library builds it"
+elif ! echo '#include <gc/cord.h>' | gcc -E - > /dev/null 2>&1; then
+    echo "NOT TRIED: cord.h over the library: there is no gcc here, or no gc/cord.h"
+else
+    try 'cord.h over the library' '' sh examples/boehm/tests/run.sh 40
 fi
 if [ -f crates/cord_c/out/cord_c.wasm ]; then
     try 'the page in a browser' 'python3 chromium' python3 tests/browser.py 420
