@@ -79,33 +79,29 @@ class Mirror:
         line, index = position
         return min(self.start(line) + len(self.form.written(self.lines[line][:index])), len(self.kept))
 
-    def told_length(self, start, end):
-        """How many units a told text has between two positions; the end of a line is one."""
+    def told_lengths(self, start, end):
+        """How long the text between two positions is, the end of a line being one: in units, and in characters, by which Emacs counts a length."""
         (first, a), (last, b) = start, end
         if first == last:
             parts = [self.lines[first][a:b]]
         else:
             parts = [self.lines[first][a:], *self.lines[first + 1 : last], self.lines[last][:b]]
-        return sum(units(part, self.counted) for part in parts) + last - first
+        return [sum(units(part, counted) for part in parts) + last - first for counted in (self.counted, "utf-32")]
 
     def behind(self, start, length):
-        """The position that is this many units behind another."""
+        """The position that is this many characters behind another."""
         line, index = start
-        rest = units(self.lines[line][index:], self.counted)
-        while length > rest and line + 1 < len(self.lines):
-            line, index, length = line + 1, 0, length - rest - 1
-            rest = units(self.lines[line], self.counted)
-        while length > 0 and index < len(self.lines[line]):
-            length -= units(self.lines[line][index], self.counted)
-            index += 1
-        return line, index
+        while length > len(self.lines[line]) - index and line + 1 < len(self.lines):
+            length -= len(self.lines[line]) - index + 1
+            line, index = line + 1, 0
+        return line, min(index + length, len(self.lines[line]))
 
     def ends_of(self, change):
         """Both ends of what a change replaces. Where the length that was told with a range is another, it goes before the range's end: some versions of
         editors tell that end wrong."""
         start, end = self.position(change["range"]["start"]), self.position(change["range"]["end"])
         length = change.get("rangeLength")
-        if length is not None and self.told_length(start, max(start, end)) != length:
+        if length is not None and length not in self.told_lengths(start, max(start, end)):
             end = self.behind(start, length)
         return start, max(start, end)
 

@@ -21,27 +21,32 @@
 (defun keep-keys--text (start end)
   (concat ",\"text\":" (keep-keys--quoted (buffer-substring-no-properties start end))))
 
+(defun keep-keys--whole () (save-restriction (widen) (keep-keys--text (point-min) (point-max))))
+
 (defun keep-keys--changed (start end old)
-  "Tells a change: where it is, how many characters went, and those that came."
+  "Tells a change: where it is, how many characters went, and those that came. While a file is read anew, Emacs does not tell all."
   (save-match-data
     (save-restriction
       (widen)
       (let* ((column (save-excursion (goto-char start) (let ((inhibit-field-text-motion t)) (- start (line-beginning-position)))))
              (at (format "{\"line\":%d,\"character\":%d}" (1- (line-number-at-pos start t)) column)))
-        (keep-keys--tell "didChange" (format ",\"contentChanges\":[{\"range\":{\"start\":%s,\"end\":%s},\"rangeLength\":%d%s}]"
-                                             at at old (keep-keys--text start end)))))))
+        (unless revert-buffer-in-progress-p
+          (keep-keys--tell "didChange" (format ",\"contentChanges\":[{\"range\":{\"start\":%s,\"end\":%s},\"rangeLength\":%d%s}]"
+                                               at at old (keep-keys--text start end))))))))
 (put 'keep-keys--changed 'permanent-local-hook t)
 
-(defun keep-keys--whole () (save-restriction (widen) (keep-keys--text (point-min) (point-max))))
+(defun keep-keys--reverted () (keep-keys--tell "didChange" (format ",\"contentChanges\":[{%s}]" (substring (keep-keys--whole) 1))))
 (defun keep-keys--saved () (keep-keys--tell "didSave" (keep-keys--whole)))
 (defun keep-keys--closed () (keep-keys--tell "didClose"))
 (put 'keep-keys--saved 'permanent-local-hook t)
+(put 'keep-keys--reverted 'permanent-local-hook t)
 (put 'keep-keys--closed 'permanent-local-hook t)
 
 (defun keep-keys--open ()
   (keep-keys--tell "didOpen" nil (keep-keys--whole))
   (add-hook 'after-change-functions #'keep-keys--changed nil t)
   (add-hook 'after-save-hook #'keep-keys--saved nil t)
+  (add-hook 'after-revert-hook #'keep-keys--reverted nil t)
   (add-hook 'kill-buffer-hook #'keep-keys--closed nil t))
 
 (defun keep-keys--heard (_process told)
