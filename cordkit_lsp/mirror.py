@@ -31,13 +31,15 @@ class Mirror:
     A text without a line is `void`: such an editor shows one line, which is not in the file."""
 
     def __init__(self, form, text, counted, ended):
-        self.counted, self.ended = counted, ended
+        self.counted, self.ended, self.last_end = counted, ended, ""
         self.tell(form, text)
 
     def tell(self, form, text):
         """Takes a whole text, and how a file writes it."""
         self.form, self.void = form, False
         self.lines = text.split(form.told_end)
+        if len(self.lines) > 1:
+            self.last_end = "\r" if self.ended and all(line.endswith("\r") for line in self.lines[:-1]) else ""
         self.settle()
         self.starts = [len(form.mark)]
         self.kept = bytearray(self.whole())
@@ -49,12 +51,13 @@ class Mirror:
         return self.form.mark if self.void else self.form.whole(self.told())
 
     def settle(self):
-        """Sees to it that the last line is empty where lines have ends."""
+        """Sees to it that the last line is empty where lines have ends, with the return before the last end that is told before each other one."""
         if not self.ended:
             return
         if self.lines == [""]:
-            self.void, self.lines = True, ["", ""]
+            self.void, self.lines = True, [self.last_end, ""]
         elif self.lines[-1]:
+            self.lines[-1] = self.lines[-1].rstrip("\r") + self.last_end
             self.lines.append("")
 
     def size(self, line):
@@ -128,7 +131,7 @@ class Mirror:
         before = bytes(self.kept)
         self.lines[first : last + 1] = new
         del self.starts[first + 1 :]
-        self.void = self.void and self.lines == ["", ""]
+        self.void = self.void and self.lines == [self.last_end, ""]
         self.settle()
         self.kept = bytearray(self.whole())
         return changes(before, bytes(self.kept))

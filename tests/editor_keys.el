@@ -5,7 +5,7 @@
 (setq make-backup-files nil auto-save-default nil create-lockfiles nil inhibit-message t)
 (random (env "SEED"))
 (defvar listing "")
-(defun tell (&rest words) (setq listing (concat listing (apply #'format words) "\n")) (write-region listing nil (env "LISTING") nil 'quiet))
+(defun tell (&rest words) (setq listing (concat listing (apply #'format words) "\n")) (let ((coding-system-for-write 'utf-8-unix)) (write-region listing nil (env "LISTING") nil 'quiet)))
 (defun any (list) (nth (random (length list)) list))
 (defvar words (append '("a" "the fox" "\t" "x\"\\y" "  " "ab\ncd" "z" "\n" "é" "ü\n" "end.\n\n") (when (env "WIDE") '("日本語" "𐐀x" "naïve 🦊🦊" "é"))))
 

@@ -54,27 +54,33 @@ local function begin_own()
   buffer = vim.api.nvim_get_current_buf()
 end
 
--- The bytes of a file with the buffer's text. `ended` says whether the file's last line has an end.
+-- The bytes of a file with the buffer's text; `one_line` says of a buffer with an empty line whether the file has it, or else neovim does. `ended` says
+-- whether the file's last line has an end.
 local ended
-local function wanted()
+local function wanted(one_line)
   local ending = ({ unix = '\n', dos = '\r\n', mac = '\r' })[vim.bo.fileformat]
   local lines = vim.api.nvim_buf_get_lines(buffer, 0, -1, true)
   local text = table.concat(lines, ending) .. (ended and ending or '')
-  if #lines == 1 and lines[1] == '' and vim.fn.wordcount().bytes == 0 then text = '' end
+  if #lines == 1 and lines[1] == '' and not one_line and (one_line == false or vim.fn.wordcount().bytes == 0) then text = '' end
   if vim.bo.fileencoding == 'latin1' then text = vim.fn.iconv(text, 'utf-8', 'latin1') end
   if vim.bo.bomb then text = '\239\187\191' .. text end
   return text
 end
 local function hex(text) return (text:gsub('.', function(byte) return ('%02x'):format(byte:byte()) end)) end
 
+-- neovim does not tell where a buffer without a line gets an empty one, or loses it: its file is another then, as the next save shows.
+local function is_wanted(got, what)
+  if got == hex(wanted()) then return true end
+  return not what:find('save') and (got == hex(wanted(true)) or got == hex(wanted(false)))
+end
+
 local bad, compared = 0, 0
 local function compare(what)
   local got, want = (env.CLIENT == 'own' and own_request or request)(), hex(wanted())
   compared = compared + 1
-  if got ~= want then
+  if not is_wanted(got, what) then
     bad = bad + 1
     tell(('differs %s: session %s, buffer %s'):format(what, got:sub(1, 200), want:sub(1, 200)))
-    if env.CLIENT ~= 'own' and env.HEAL then vim.cmd('silent write!') end
   end
 end
 

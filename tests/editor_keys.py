@@ -66,12 +66,47 @@ def settings(folder, **more):
     return {**os.environ, **homes, "LC_ALL": "C.UTF-8", "TERM": "xterm", "EXAMPLES": EXAMPLES, "PROGRAM": SERVER, **more}
 
 
+def servers(folder):
+    """The id of each cordkit serve over a folder's file, behind that of the cordkit-lsp that started it."""
+    found = []
+    for name in filter(str.isdigit, os.listdir("/proc")):
+        try:
+            words = read(f"/proc/{name}/cmdline").split(b"\0")
+            (parent,) = re.findall(rb"^PPid:\s*(\d+)", read(f"/proc/{name}/status"), re.M)
+        except OSError:
+            continue
+        if f"{folder}/notes.txt.cord".encode() in words and b"serve" in words:
+            found.append((int(parent), int(name)))
+    return found
+
+
+def ended(folder):
+    """Whether all servers come to their end."""
+    for _ in range(200):
+        if not servers(folder):
+            return True
+        time.sleep(0.1)
+    return False
+
+
+def texts_of(folder):
+    """The texts of a folder's image, which the second checker accepts, once all is saved that an editor left beside it."""
+    require(ended(folder), "a server stays")
+    image = f"{folder}/notes.txt.cord"
+    done = subprocess.run([os.environ["CORDKIT"], "serve", image], input=b"save\n", capture_output=True, check=False)
+    require(done.stdout.startswith(b"saved"), f"{done.stdout} {done.stderr}")
+    accepted = verify.line(read(image), [])
+    require(accepted.startswith("accepted"), accepted)
+    return verify.all_texts(verify.checked(read(image), []), [])
+
+
 # ---- Edits by chance
 
 
 def edits(editor, client, form, count):
     """Edits in one editor: how many texts were compared, and how many differ."""
     with tempfile.TemporaryDirectory() as folder:
+        folder = os.path.realpath(folder)
         file, listing = f"{folder}/notes.txt", f"{folder}/listing"
         write(file, FORMS[form])
         more = {"WIDE": "1"} if form in ("plain", "empty") else {}
@@ -85,10 +120,8 @@ def edits(editor, client, form, count):
         most = count // 50 if client == "lsp" else 0
         require(compared == count + 2 and differ <= most, f"{differ} of {compared} differ: {differing[:2]}")
         require(not any("save" in line.partition(":")[0] for line in differing), f"behind a save: {differing}")
-        require(not any(line.startswith("the file is not") for line in told), told[-2])
-        image = read(f"{file}.cord")
-        require(verify.line(image, []).startswith("accepted"), "the image")
-        require(verify.all_texts(verify.checked(image, []), [])[-1] == read(file), "the image has another last text than the file")
+        require(not [line for line in told if line.startswith("the file is not")], "the file is not the buffer")
+        require(texts_of(folder)[-1] == read(file), "the image has another last text than the file")
         return compared, differ
 
 
@@ -97,7 +130,7 @@ def tried(job):
     try:
         compared, differ = edits(editor, client, form, count)
         return f"{name}: {compared} compared, {differ} differ", True
-    except (Wrong, OSError, subprocess.SubprocessError, verify.Refused if hasattr(verify, "Refused") else ValueError) as wrong:
+    except (Wrong, OSError, subprocess.SubprocessError, verify.Refused) as wrong:
         return f"FAILED: {name}: {wrong}", False
 
 
@@ -163,21 +196,6 @@ class Typist:
             self.rest(1.5)
         os.waitpid(self.pid, 0)
         os.close(self.terminal)
-
-
-def servers(folder):
-    """The ids of each cordkit-lsp and cordkit serve over a folder's file."""
-    found = []
-    for name in filter(str.isdigit, os.listdir("/proc")):
-        try:
-            words = read(f"/proc/{name}/cmdline").split(b"\0")
-        except OSError:
-            continue
-        if f"{folder}/notes.txt.cord".encode() in words and b"serve" in words:
-            with open(f"/proc/{name}/status") as status:
-                (parent,) = re.findall(r"^PPid:\s*(\d+)", status.read(), re.M)
-            found.append((int(parent), int(name)))
-    return found
 
 
 def noted(path, words):
@@ -256,9 +274,7 @@ def minutes_are_told(typist):
     """Whether each run of bytes of the last text was made in a minute in which the client told the text of its revision."""
     shown = subprocess.run([SERVER, "--runs", typist.file, "0", "999999999"], stdin=subprocess.DEVNULL, capture_output=True, check=False)
     require(shown.returncode == 0, f"--runs: {shown.stderr!r}")
-    image = read(f"{typist.file}.cord")
-    texts = verify.all_texts(verify.checked(image, []), [])
-    when = {}
+    texts, when = texts_of(typist.folder), {}
     for at, text in states_of(f"{typist.folder}/noted"):
         for second in (at, at + 1, at + 2):
             when.setdefault(text.encode(), set()).add(time.strftime("%Y-%m-%d %H:%M", time.localtime(second)))
@@ -285,11 +301,7 @@ def typing(keys):
                     if killed == "all":
                         os.kill(child, signal.SIGKILL)
             typist.end(b"\x1b:wq\r" if killed == "nothing" else None)
-            for _ in range(100):
-                if not servers(folder):
-                    break
-                time.sleep(0.1)
-            require(not servers(folder), "a server stays")
+            require(ended(folder), "a server stays")
             states = [text for _, text in states_of(f"{folder}/noted")]
             require(last_text(typist.file) == states[-1], f"part {part}, {killed} killed: {last_text(typist.file)[-80:]!r} and {states[-1][-80:]!r}")
         require(read(f"{folder}/notes.txt").decode() == states[-1], "the file is not what was told")

@@ -256,6 +256,13 @@ def ended_lines(path, _):
     client.change(0, 0, 0, "\n")
     require(client.kept()[1] == b"\n\n", f"two lines: {client.kept()}")
     client.end()
+    write(path, b"one\r\n")
+    client = Client(path, named="Neovim")
+    client.open("one\r\n")
+    client.tell("didChange", contentChanges=[{"range": {"start": {"line": 0, "character": 0}, "end": {"line": 1, "character": 0}}, "text": ""}])
+    client.change(0, 0, 0, "a\r\nb")
+    require(client.kept()[1] == b"a\r\nb\r\n", f"returns: {client.kept()}")
+    client.end()
 
 
 # ---- What comes between
