@@ -156,14 +156,20 @@ class Keeper:
 
     # ---- What the editor tells
 
-    def form_of(self, data, told):
-        """How the file writes what is told, and that text, with an end of its last line where the editor ends each. Where no form fits, `fits` is not so."""
+    def form_of(self, data, told, before=None):
+        """How the file writes what is told, and that text, with an end of its last line where the editor ends each. Where no form fits, `fits` is not so.
+        The form before goes on while it fits: a file without other characters does not tell its encoding."""
         end = forms.told_end_of(told)
         text = told
         if self.ended:
-            empty = told in ("", end) and data in (b"", *forms.MARKS.values())
+            empty = told in ("", "\n", "\r\n", "\r") and data in (b"", *forms.MARKS.values())
             text = "" if empty else told if told.endswith(end) else told + end
-        form = forms.fitting(data, text) if os.path.exists(self.path) else forms.Form(told_end=end, end=end)
+        if before and before.whole(text) == data:
+            form = before
+        elif os.path.exists(self.path):
+            form = forms.fitting(data, text)
+        else:
+            form = forms.Form(told_end=end, end=end)
         self.fits = form is not None
         return form or forms.guessed(data, text), text
 
@@ -205,11 +211,11 @@ class Keeper:
 
     def saved(self, told):
         """The file was saved, with this text where it is told: the last text is the file's then."""
-        data = bytes_of_file(self.path)
-        if told is None:
-            told = forms.told_by(self.mirror.form, data)
-        fitted = self.fits
-        form, text = self.form_of(data, told)
+        data, before, fitted = bytes_of_file(self.path), self.mirror.form, self.fits
+        form, text = self.form_of(data, forms.told_by(before, data) if told is None else told, before)
+        if not self.fits and text in (whole := forms.told_by(form, data)):
+            # Where a part of the text is shown alone, eglot tells that part.
+            form, text = self.form_of(data, whole, before)
         if self.fits:
             self.retell(form, text, "set right at a save")
         else:

@@ -56,7 +56,8 @@
 (defun compare (what)
   (let ((got (or (if own (kept-own) (kept-lsp)) "nothing")) (want (wanted)))
     (setq compared (1+ compared))
-    (unless (string= got want)
+    ;; Of a file with a mark, of which no text is left, Emacs writes no mark either: the next save shows it.
+    (unless (or (string= got want) (and (= 0 (buffer-size)) (member got '("" "efbbbf"))))
       (setq bad (1+ bad))
       (tell "differs %S: session %s, buffer %s" what (start-of got) (start-of want)))))
 

@@ -323,6 +323,7 @@ def set_right(path, _):
     client = Client(path)
     client.open("one\ntwo\nthree\n")
     client.change(1, 0, 3, "wrong")
+    require(client.kept()[1] == b"one\nwrong\nthree\n", "a wrong range")
     write(path, b"one\ntwo 2\nthree 3\n")
     client.save("one\ntwo 2\nthree 3\n")
     require(client.kept()[1] == b"one\ntwo 2\nthree 3\n", f"{client.kept()}")
@@ -332,11 +333,26 @@ def set_right(path, _):
     client.tell("didChange", contentChanges=[{"range": {"start": {"line": 90, "character": 7}, "end": {"line": 99, "character": 0}}, "text": "end"}])
     require(client.kept()[1] == b"1\ntwo 2\nthree 3\nend", f"behind the text: {client.kept()}")
     write(path, b"not told\n")
-    client.save("told\n")
-    require(client.kept()[1] == b"told\n", f"{client.kept()}")
+    client.save("other\n")
+    require(client.kept()[1] == b"other\n", f"{client.kept()}")
     client.end()
     (number,) = [line.split()[0] for line in read(path + ".times").decode().splitlines() if line.endswith(" the file at a save")]
     require(run(os.environ["CORDKIT"], "show", path + ".cord", number).stdout == b"not told\n", "the file's text is no revision")
+
+
+def told_in_part(path, _):
+    """A save at which a part of the text is told: the file's text stays. And a file whose form does not show any more goes on in it."""
+    write(path, "é\r\ntwo\r\n".encode("latin-1"))
+    client = Client(path)
+    client.open("é\ntwo\n")
+    client.change(0, 0, 1, "one")
+    require(client.kept() == (2, "one\r\ntwo\r\n".encode()), f"{client.kept()}")
+    write(path, b"one\r\ntwo\r\n")
+    client.save("two\n")
+    require(client.kept() == (2, b"one\r\ntwo\r\n"), f"{client.kept()}")
+    client.change(1, 0, 0, "ü")
+    require(client.kept() == (3, "one\r\nütwo\r\n".encode("latin-1")), f"{client.kept()}")
+    client.end()
 
 
 def two_at_once(path, _):
@@ -500,7 +516,7 @@ def refused(path, _):
     client.end()
 
 
-CASES = [by_chance, ended_lines, changed_on_disk, undone, long_texts, set_right, two_at_once, full, not_named, modes, looked_at, named, refused]
+CASES = [by_chance, ended_lines, changed_on_disk, undone, long_texts, set_right, told_in_part, two_at_once, full, not_named, modes, looked_at, named, refused]
 
 
 def tried(name, case, given):
