@@ -80,6 +80,8 @@
     (replace-region-contents (point-min) (point-max) (lambda () (concat (upcase (buffer-string)) "!"))) (revert-buffer t t)
     (narrow-to-region (point) (anywhere)) (widen) (erase-buffer)))
 
+;; A file that is read anew with no character of its encoding has another one for Emacs from then on.
+(when (env "ENCODED") (setq operations (remove '(revert-buffer t t) operations)))
 (if own (begin-own) (begin-lsp))
 (compare "the opening")
 (dotimes (number (string-to-number (env "COUNT")))
@@ -95,7 +97,7 @@
 (save-buffer)
 (compare "the last save")
 (let ((disk (with-temp-buffer (set-buffer-multibyte nil) (let ((coding-system-for-read 'binary)) (insert-file-contents-literally (env "FILE"))) (hex (buffer-string)))))
-  (unless (string= disk (wanted)) (setq bad (1+ bad)) (tell "the file is not the buffer")))
+  (unless (or (string= disk (wanted)) (and (= 0 (buffer-size)) (string= disk ""))) (setq bad (1+ bad)) (tell "the file is not the buffer")))
 (tell "compared %d differ %d" compared bad)
 (if own (process-send-eof keep-keys-process) (ignore-errors (eglot-shutdown server)))
 (when own (while (process-live-p keep-keys-process) (accept-process-output keep-keys-process 1)))

@@ -109,7 +109,7 @@ def edits(editor, client, form, count):
         folder = os.path.realpath(folder)
         file, listing = f"{folder}/notes.txt", f"{folder}/listing"
         write(file, FORMS[form])
-        more = {"WIDE": "1"} if form in ("plain", "empty") else {}
+        more = {"WIDE": "1"} if form in ("plain", "empty") else {"ENCODED": "1"} if form == "Latin-1" else {}
         env = settings(folder, FILE=file, LISTING=listing, CLIENT=client, COUNT=str(count), SEED=str(count + len(form)), **more)
         done = subprocess.run(EDITORS[editor], stdin=subprocess.DEVNULL, capture_output=True, check=False, cwd=folder, env=env, timeout=60 + 3 * count)
         told = read(listing).decode("utf-8", "replace").splitlines() if os.path.exists(listing) else []
