@@ -2,7 +2,6 @@
 
 import argparse
 import os
-import signal
 import sys
 
 from . import looking, named
@@ -95,16 +94,10 @@ def done(given):
         Server(given.patterns, given.whole).run()
 
 
-def leave(*_):
-    sys.exit(0)
-
-
 def main():
     """Status: 0 done; 1 refused, and why is on standard error; 2 other words; 3 where a file could not be read or written."""
     reader = words()
     given = reader.parse_args()
-    for number in (signal.SIGTERM, signal.SIGHUP, signal.SIGINT):
-        signal.signal(number, leave)
     try:
         done(given)
     except (Wrong, Lost, looking.Unseen) as fault:

@@ -2,6 +2,7 @@
 
 import os
 import select
+import signal
 import sys
 import urllib.parse
 
@@ -19,6 +20,17 @@ def path_of(uri):
     """The file that a name of the protocol names; links are followed, so that one file has one session."""
     parts = urllib.parse.urlsplit(uri)
     return os.path.realpath(urllib.parse.unquote(parts.path, errors="surrogateescape")) if parts.scheme == "file" else None
+
+
+def stopping():
+    """Where a byte comes once this server is to stop. A terminal that goes away, or a key that interrupts it, is the editor's matter: its input ends then."""
+    stopped, come = os.pipe()
+    os.set_blocking(come, False)
+    signal.signal(signal.SIGTERM, lambda *_: None)
+    signal.signal(signal.SIGHUP, signal.SIG_IGN)
+    signal.signal(signal.SIGINT, signal.SIG_IGN)
+    signal.set_wakeup_fd(come)
+    return stopped
 
 
 class Unknown(Exception):
@@ -45,19 +57,26 @@ class Server:
         self.write({"method": "window/showMessage", "params": {"type": kind, "message": f"cordkit: {text}"}})
 
     def run(self):
-        """Answers messages until the editor ends, and then saves what is open."""
-        framing = Framing()
+        """Answers messages until the editor ends, or a signal stops this server and no message is left; then saves what is open."""
+        framing, stopped = Framing(), stopping()
         try:
             while not self.left:
                 sources = {keeper.serving.fileno(): uri for uri, keeper in self.keepers.items()}
+                is_stopped = select.select([stopped], [], [], 0)[0]
                 # Answers first: what a message asks takes those that have come.
-                for ready in select.select([*sources, sys.stdin.fileno()], [], [])[0]:
-                    if ready in sources:
-                        self.guard(sources[ready], Keeper.receive)
-                    elif not self.take(framing):
-                        return
+                waiting = [*sources, sys.stdin.fileno(), *([] if is_stopped else [stopped])]
+                found = select.select(waiting, [], [], 0 if is_stopped else None)[0]
+                if not found or not self.turn(found, sources, framing):
+                    return
         finally:
             self.close_all()
+
+    def turn(self, found, sources, framing):
+        """Takes answers of sessions, and messages. False where the input ended."""
+        for ready in found:
+            if ready in sources:
+                self.guard(sources[ready], Keeper.receive)
+        return sys.stdin.fileno() not in found or self.take(framing)
 
     def take(self, framing):
         """Takes a piece of the input. False where that ended."""

@@ -340,6 +340,17 @@ def set_right(path, _):
     require(run(os.environ["CORDKIT"], "show", path + ".cord", number).stdout == b"not told\n", "the file's text is no revision")
 
 
+def stopped(path, _):
+    """A signal that stops the server: what was told before is kept, and saved."""
+    write(path, b"")
+    client = Client(path)
+    client.open("")
+    for number in range(200):
+        client.change(0, number, number, "x")
+    client.child.terminate()
+    require(client.child.wait(60) == 0 and checked(path) == b"x" * 200, f"{checked(path)!r}")
+
+
 def told_in_part(path, _):
     """A save at which a part of the text is told: the file's text stays. And a file whose form does not show any more goes on in it."""
     write(path, "é\r\ntwo\r\n".encode("latin-1"))
@@ -516,7 +527,7 @@ def refused(path, _):
     client.end()
 
 
-CASES = [by_chance, ended_lines, changed_on_disk, undone, long_texts, set_right, told_in_part, two_at_once, full, not_named, modes, looked_at, named, refused]
+CASES = [by_chance, ended_lines, changed_on_disk, undone, long_texts, set_right, stopped, told_in_part, two_at_once, full, not_named, modes, looked_at, named, refused]
 
 
 def tried(name, case, given):
