@@ -6,6 +6,7 @@ import sys
 
 from . import looking, named
 from .keeping import Keeper, Lost, cut_off
+from .messages import NoMessage
 from .server import Server
 
 ABOUT = """Records what is typed into files that you name: a language server over standard input and output. Each change that an editor tells becomes a
@@ -100,7 +101,7 @@ def main():
     given = reader.parse_args()
     try:
         done(given)
-    except (Wrong, Lost, looking.Unseen) as fault:
+    except (Wrong, Lost, NoMessage, looking.Unseen) as fault:
         print(f"cordkit-lsp: {fault}", file=sys.stderr)
         return 1
     except OSError as fault:

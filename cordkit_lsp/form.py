@@ -90,5 +90,5 @@ def guessed(data, text):
 
 def told_by(form, data):
     """The told text of a file with this form."""
-    text = data[len(form.mark) :].decode(form.encoding, "surrogateescape")
+    text = data[len(form.mark) :].decode(form.encoding, "replace" if form.encoding.startswith("utf-16") else "surrogateescape")
     return text.replace(form.end, form.told_end) if form.end != form.told_end else text

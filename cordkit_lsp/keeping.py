@@ -47,9 +47,8 @@ class Keeper:
         self.mirror = Mirror(form, text, counted, ended)
         try:
             self.begin()
-        except Ended as fault:
-            self.end()
-            raise Lost(str(fault)) from None
+        except (Ended, OSError) as fault:
+            raise self.lost(fault) from None
         self.run(self.put_right, "changed elsewhere")
 
     # ---- The session
@@ -96,8 +95,14 @@ class Keeper:
                 why, what, given = str(fault), self.again, ()
             except Refused as fault:
                 why, what, given = str(fault), self.mend, (str(fault),)
+            except OSError as fault:
+                raise self.lost(fault) from None
+        raise self.lost(why)
+
+    def lost(self, why):
+        """Ends the session, of which nothing more can be kept."""
         self.end()
-        raise Lost(why)
+        return Lost(f"{os.path.basename(why.filename or self.path)}: {why.strerror}" if isinstance(why, OSError) else str(why))
 
     def surely(self, what):
         """The same for what has to be done in any case."""

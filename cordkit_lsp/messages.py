@@ -3,6 +3,10 @@
 import json
 
 
+class NoMessage(Exception):
+    """The input is none of messages."""
+
+
 class Framing:
     """Puts pieces of input together to messages."""
 
@@ -13,7 +17,13 @@ class Framing:
         """Takes a piece; the messages that are whole now."""
         self.data += piece
         while (body := self.next_body()) is not None:
-            yield json.loads(body.decode("utf-8", "surrogateescape"))
+            try:
+                found = json.loads(body.decode("utf-8", "surrogateescape"))
+            except ValueError:
+                raise NoMessage("a message is no JSON") from None
+            if not isinstance(found, dict):
+                raise NoMessage("a message is no object")
+            yield found
 
     def next_body(self):
         end = self.data.find(b"\r\n\r\n")
@@ -30,9 +40,9 @@ class Framing:
 def length_in(header):
     for line in header.split(b"\r\n"):
         name, _, value = line.partition(b":")
-        if name.strip().lower() == b"content-length":
+        if name.strip().lower() == b"content-length" and value.strip().isdigit():
             return int(value)
-    raise ValueError("a message without a Content-Length")
+    raise NoMessage("a message without a Content-Length")
 
 
 def message(body):

@@ -86,5 +86,5 @@ def open_as(path, *others):
                 except OSError:
                     bits &= 0o707 | bits << 3 & 0o070
             os.chmod(other, bits)
-        except FileNotFoundError:
-            pass
+        except OSError:
+            pass  # It is not there, or another's: it stays as open as it is.

@@ -100,6 +100,9 @@ class Server:
             answer = {"error": {"code": -32601, "message": str(fault)}}
         except looking.Unseen as fault:
             answer = {"error": {"code": -32803, "message": f"cordkit: {fault}"}}
+        except (KeyError, TypeError, ValueError, AttributeError) as fault:
+            print(f"cordkit-lsp: {name}: {type(fault).__name__} {fault}", file=sys.stderr, flush=True)
+            answer = {"error": {"code": -32602, "message": f"{name} has other words"}}
         if "id" in body:
             self.write({"id": body["id"], **answer})
 

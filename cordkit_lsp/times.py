@@ -38,8 +38,7 @@ def last_of(known, minute):
 
 class Times:
     def __init__(self, path):
-        self.path, self.file = path, None
-        self.known = read_times(path)[0]
+        self.path, self.file, self.known = path, None, []
 
     def begin(self, last):
         """Drops a last line whose revision never came: it is written before the revision is made."""

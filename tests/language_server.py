@@ -112,7 +112,7 @@ class Client:
 
 
 def run(*words, **more):
-    return subprocess.run(words, stdin=subprocess.DEVNULL, capture_output=True, check=False, **more)
+    return subprocess.run(words, capture_output=True, check=False, **{"input": b"", **more})
 
 
 def checked(path):
@@ -521,10 +521,20 @@ def refused(path, _):
     client.open("one\n")
     require(client.kept() == (None, None) and any("C1" in line for line in client.told) and read(path + ".cord") == b"prose", f"{client.told}")
     client.end()
+    os.remove(path + ".cord")
+    os.mkdir(path + ".times")
+    client = Client(path)
+    client.open("one\n")
+    require(client.kept() == (None, None) and any("n é.txt.times" in line for line in client.told), f"{client.told}")
+    client.end()
+    os.rmdir(path + ".times")
     client = Client(path, CORDKIT="/no/such/program")
     client.open("one\n")
     require(client.kept() == (None, None) and any("not recorded" in line for line in client.told), f"{client.told}")
     client.end()
+    for wrong in (b"Content-Length: 3\r\n\r\nabc", b"Length: 3\r\n\r\nabc", b"Content-Length: 2\r\n\r\n[]"):
+        done = run(SERVER, **{"input": wrong})
+        require(done.returncode == 1 and done.stderr.startswith(b"cordkit-lsp: a message "), f"{wrong!r}: {done}")
 
 
 CASES = [by_chance, ended_lines, changed_on_disk, undone, long_texts, set_right, stopped, told_in_part, two_at_once, full, not_named, modes, looked_at, named, refused]
