@@ -1,4 +1,4 @@
-# Completions of cordkit, cordedit and cordkit-verify for bash.
+# Completions of cordkit, cordedit, cordkit-verify and cordkit-lsp for bash.
 
 # What the words of a command are, in their order; `files` are all words from there on.
 _cordkit_kinds() {
@@ -12,6 +12,7 @@ _cordkit_kinds() {
         find) echo number text file ;;
         cmp | edit | serve) echo file file ;;
         cordedit) [[ -n $continued ]] && echo file file file || echo file file ;;
+        cordkit-lsp) [[ -n $looked ]] && echo number number || echo files ;;
         help) echo command ;;
     esac
 }
@@ -19,6 +20,7 @@ _cordkit_kinds() {
 _cordkit_options() {
     case $1 in
         cordkit-verify) echo --text --graph --at-most --help ;;
+        cordkit-lsp) echo --whole --start --stop --continue --show --runs --help ;;
         check | migrate) echo --at-most --length --explain --quiet --help ;;
         show | commit | restore | serve) echo --at-most --explain --quiet --help ;;
         log) echo --at-most --length --brief --explain --quiet --help ;;
@@ -48,6 +50,9 @@ _cordkit_read() {
         elif [[ $word == --at-most || $word == --length || $word == --start || $word == --count || $word == --text || $word == --onto || $word == --keep || $word == --session ]]; then
             [[ ${COMP_WORDS[k + 1]} == = ]] && ((++k))
             ((++k >= COMP_CWORD)) && valued=$command$word
+        elif [[ $command == cordkit-lsp && $word == --@(start|stop|continue|show|runs) ]]; then
+            looked=yes
+            ((++k >= COMP_CWORD)) && valued=$command$word
         elif [[ $word == --continue ]]; then
             continued=yes
         elif [[ $word != -* && -z $command ]]; then
@@ -60,11 +65,11 @@ _cordkit_read() {
 
 _cordkit() {
     local commands='check show cut join find cmp edit migrate log blame apply commit restore serve help'
-    local IFS=$' \t\n' command='' place=0 ended='' valued='' continued='' redirected='' kind kinds
+    local IFS=$' \t\n' command='' place=0 ended='' valued='' continued='' looked='' redirected='' kind kinds
     COMPREPLY=()
     [[ ${1##*/} == cordkit ]] || command=${1##*/}
     _cordkit_read
-    if [[ -n $redirected || $valued == edit--* || $valued == apply--onto || $valued == cordedit--text ]]; then
+    if [[ -n $redirected || $valued == edit--* || $valued == apply--onto || $valued == cordedit--text || $valued == cordkit-lsp--* ]]; then
         compopt -o default
         return
     fi
@@ -87,4 +92,4 @@ _cordkit() {
     esac
 }
 
-complete -F _cordkit cordkit cordedit cordkit-verify
+complete -F _cordkit cordkit cordedit cordkit-verify cordkit-lsp

@@ -49,31 +49,39 @@ files="755 lib/cordkit/cordkit $program
 755 bin/cordedit bin/cordedit
 755 bin/cordkit-verify bin/cordkit-verify
 755 bin/cordkit-page bin/cordkit-page
+755 bin/cordkit-lsp bin/cordkit-lsp
 644 share/man/man1/cordkit.1 man/cordkit.1
 644 share/man/man1/cordedit.1 man/cordedit.1
 644 share/man/man1/cordkit-verify.1 man/cordkit-verify.1
+644 share/man/man1/cordkit-lsp.1 man/cordkit-lsp.1
 644 share/man/man5/cord-image.5 man/cord-image.5
 644 share/bash-completion/completions/cordkit completions/cordkit.bash
 644 share/bash-completion/completions/cordedit completions/cordkit.bash
 644 share/bash-completion/completions/cordkit-verify completions/cordkit.bash
+644 share/bash-completion/completions/cordkit-lsp completions/cordkit.bash
 644 share/zsh/site-functions/_cordkit completions/_cordkit
 644 share/fish/vendor_completions.d/cordkit.fish completions/cordkit.fish
 644 share/fish/vendor_completions.d/cordkit-verify.fish completions/cordkit-verify.fish
+644 share/fish/vendor_completions.d/cordkit-lsp.fish completions/cordkit-lsp.fish
 644 share/cordkit/magic packaging/magic
 755 share/cordkit/keep_file examples/keep_file
 644 share/cordkit/keep_file.vim examples/keep_file.vim
 644 share/cordkit/keep_file.kak examples/keep_file.kak
+644 share/cordkit/keep_keys.lua examples/keep_keys.lua
+644 share/cordkit/keep_keys.el examples/keep_keys.el
 755 share/doc/cordkit/examples/from_git examples/from_git
 644 share/doc/cordkit/README.md README.md
 644 share/doc/cordkit/CONTRIBUTING.md CONTRIBUTING.md
 644 share/doc/cordkit/CHANGELOG.md CHANGELOG.md
 644 share/doc/cordkit/LICENSE LICENSE
-$(printf '644 share/doc/cordkit/%s\n' docs/*.md | sed 's/.*cordkit\/\(.*\)/& \1/')"
+$(printf '644 share/doc/cordkit/%s\n' docs/*.md | sed 's/.*cordkit\/\(.*\)/& \1/')
+$(printf '644 lib/cordkit/%s\n' cordkit_lsp/*.py | sed 's/.*cordkit\/\(.*\)/& \1/')"
 
 # Documents that become manual pages: their names there, and where they stand.
 pages="cordkit-start docs/START.md
 cordkit-commit docs/COMMIT.md
 cordkit-editor docs/EDITOR.md
+cordkit-editors docs/EDITORS.md
 cordkit-faq docs/FAQ.md"
 
 # Those of the C libraries, and those of the Python module, which loads them.

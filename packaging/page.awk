@@ -41,7 +41,7 @@ function linked(link,    words, to) {
     sub(/^.*\]\(/, "", to)
     sub(/[#)].*$/, "", to)
     sub(/^.*\//, "", to)
-    if (to ~ /^(START|COMMIT|EDITOR|FAQ)\.md$/) {
+    if (to ~ /^(START|COMMIT|EDITORS?|FAQ)\.md$/) {
         sub(/\.md$/, "", to)
         return "\\fBcordkit\\-" tolower(to) "\\fR(7)"
     }

@@ -92,18 +92,24 @@ wanted_files() {
     echo '644 lib/cordkit/folders
 644 share/bash-completion/completions/cordedit
 644 share/bash-completion/completions/cordkit
+644 share/bash-completion/completions/cordkit-lsp
 644 share/bash-completion/completions/cordkit-verify
 644 share/cordkit/keep_file.kak
 644 share/cordkit/keep_file.vim
+644 share/cordkit/keep_keys.el
+644 share/cordkit/keep_keys.lua
 644 share/cordkit/magic
+644 share/fish/vendor_completions.d/cordkit-lsp.fish
 644 share/fish/vendor_completions.d/cordkit-verify.fish
 644 share/fish/vendor_completions.d/cordkit.fish
 644 share/man/man1/cordedit.1
+644 share/man/man1/cordkit-lsp.1
 644 share/man/man1/cordkit-verify.1
 644 share/man/man1/cordkit.1
 644 share/man/man5/cord-image.5
 644 share/man/man7/cordkit-commit.7
 644 share/man/man7/cordkit-editor.7
+644 share/man/man7/cordkit-editors.7
 644 share/man/man7/cordkit-faq.7
 644 share/man/man7/cordkit-start.7
 644 share/zsh/site-functions/_cordkit
@@ -115,10 +121,11 @@ wanted_files() {
 644 share/doc/cordkit/README.md
 755 bin/cordedit
 755 bin/cordkit
+755 bin/cordkit-lsp
 755 bin/cordkit-page
 755 bin/cordkit-verify
 755 lib/cordkit/cordkit'
-    (cd "$top" && printf '644 share/doc/cordkit/%s\n' docs/*.md)
+    (cd "$top" && printf '644 share/doc/cordkit/%s\n' docs/*.md && printf '644 lib/cordkit/%s\n' cordkit_lsp/*.py)
     if [ -f "$library" ]; then
         echo '644 include/cord.h
 644 include/cordkit/cord.h
@@ -399,13 +406,24 @@ try_saves() {
     fi
 }
 
+# What is typed, by the installed server and its folder, over the installed program.
+try_typed_keys() {
+    has python3 'the installed language server' || return
+    if written=$(CORDKIT_LSP="$prefix/bin/cordkit-lsp" python3 "$top/tests/language_server.py" 20 "$prefix/lib/cordkit/cordkit"); then
+        passes
+    else
+        echo "$written"
+        fails 'the installed language server'
+    fi
+}
+
 # The sections of a document, as its manual page has them.
 sections_of() {
     sed -n 's/^## //p' "$top/docs/$1.md" | tr '[:lower:]' '[:upper:]' | tr -d "'"
 }
 
 try_documents() {
-    for page in START COMMIT EDITOR FAQ; do
+    for page in START COMMIT EDITOR EDITORS FAQ; do
         installed=$prefix/share/man/man7/cordkit-$(echo "$page" | tr '[:upper:]' '[:lower:]').7
         is_same "the sections of $page" "$(sed -n 's/^\.SH //p' "$installed" | sed 's/\\(aq//g; s/\\-/-/g' | grep -vxE 'NAME|DESCRIPTION|SEE ALSO')" "$(sections_of "$page")"
         is_same "no mark of the document is left in $page" "$(grep -cE '\*\*|\]\(|^\|' "$installed")" 0
@@ -459,9 +477,9 @@ try_examples() {
 try_pages() {
     all_examples=0
     for page in "$prefix"/share/man/man*/*; do
-        if [ "$(basename "$page")" = cordkit-verify.1 ] && ! has python3 'the examples of the second checker'; then
-            continue
-        fi
+        case $(basename "$page") in
+        cordkit-verify.1 | cordkit-lsp.1) has python3 "the examples of $(basename "$page")" || continue ;;
+        esac
         try_examples "$page"
     done
     if [ "$all_examples" -ge 5 ]; then passes; else fails "$all_examples examples in the manual pages"; fi
@@ -511,6 +529,7 @@ show_words() { printf '|%s' "$@" >> got; echo >> got; }
 cordkit() { show_words "$@"; }
 cordedit() { show_words "$@"; }
 cordkit-verify() { show_words "$@"; }
+cordkit-lsp() { show_words "$@"; }
 WORDS
     cat > table << 'TABLE'
 cordkit ch*ses*te*;|check|session.cord|text
@@ -540,6 +559,9 @@ cordedit --te*te* ses*te*te*;|--text|text|session.cord|text|te
 cordedit --con*ses*te*a*te*;|--continue|session.cord|text|a file|te
 cordkit-verify --text 1* ses*te*;|--text|1|session.cord|text
 cordkit-verify --g*ses*;|--graph|session.cord
+cordkit-lsp --sta*te*;|--start|text
+cordkit-lsp --w*te*;|--whole|text
+cordkit-lsp --sh*te*;|--show|text
 TABLE
 }
 
@@ -611,6 +633,7 @@ else
 fi
 try_history
 try_saves
+try_typed_keys
 try_library
 try_pages
 try_documents

@@ -9,6 +9,8 @@
 #   70 edits of files, committed, beside git          python3 and git
 #   the editor's sessions, ended at each call         python3 and strace
 #   a hundred saves of an editor, each committed      python3; vim and kakoune, each for its own
+#   2,000 notifications to the language server        python3
+#   a thousand edits by each client, 10,000 keys      python3; neovim, and Emacs with eglot, each for its own
 #   the bytes of open files at each place             python3
 #   reads and writes that devices refuse              nothing more
 #   the tests of ropes under memcheck                 valgrind, and rt where they are not built
@@ -60,6 +62,8 @@ try 'requests, killed too' python3 python3 tests/random_served.py 1000
 try 'commits, killed and two at once too' python3 python3 tests/commits.py 1000
 try 'files that were edited' 'python3 git' python3 tests/edited_files.py all
 try 'crashes of sessions' 'python3 strace' python3 tests/crashes.py
+try 'the language server' python3 python3 tests/language_server.py 2000
+try 'keys in neovim and Emacs' python3 python3 tests/editor_keys.py 1000 10000
 try 'a hundred saves of vim and kakoune' python3 python3 tests/editor_saves.py
 try 'the bytes of open files, behind 2^32 too' python3 python3 tests/open_files.py
 try 'where bytes come from' python3 python3 tests/random_blames.py 2000

@@ -1,7 +1,7 @@
 #!/bin/sh
 # A slice of what `make long` and `make fuzz` run with python, with fixed seeds, in some seconds: the second checker on the worked images, damaged
-# images, keys, scripts, scripts behind images, requests, commits, crashes of sessions, where bytes come from, the inputs that the fuzzer kept, sources of
-# any size, the bytes of open files at each place, and how many blocks of files are kept, over the program that `make run` built or the one that $1 names; the history of README.md as a
+# images, keys, scripts, scripts behind images, requests, commits, crashes of sessions, the language server, by a client
+# and in editors, where bytes come from, the inputs that the fuzzer kept, sources of any size, the bytes of open files at each place, and how many blocks of files are kept, over the program that `make run` built or the one that $1 names; the history of README.md as a
 # session, and what docs/START.md, docs/SCRIPTS.md and docs/SERVE.md show; what the build before the pass for speed answered, beside the program cord_answers, as
 # the gate built it; images by the C library, through its Python module, where `make library` built it; where there is gcc, each allocation of that
 # program's runs refused, and of those of refusal_tests, as the gate built them; and whether docs/HEADLINE.md and docs/DEFINITIONS.md are what specs/
@@ -13,7 +13,7 @@ set -u
 top=$(cd "$(dirname "$0")/.." && pwd)
 program=${1:-$top/crates/cordkit/out/cordkit}
 if ! command -v python3 > /dev/null; then
-    echo "LEFT OUT: the second checker, damaged images, keys, scripts, scripts behind images, requests, commits, crashes of sessions, where bytes come from, the history of README.md, the inputs of the fuzzer, large sources, the bytes of open files, blocks that are kept, the answers of the start, refused allocations, docs/HEADLINE.md and docs/DEFINITIONS.md, names, README.md and docs/PROVED.md, wrong edits, which calls have them, what the benchmark names, whole matches, worked images in tests, each tool and its options, CONTRIBUTING.md: there is no python3 here"
+    echo "LEFT OUT: the second checker, damaged images, keys, scripts, scripts behind images, requests, commits, crashes of sessions, the language server, where bytes come from, the history of README.md, the inputs of the fuzzer, large sources, the bytes of open files, blocks that are kept, the answers of the start, refused allocations, docs/HEADLINE.md and docs/DEFINITIONS.md, names, README.md and docs/PROVED.md, wrong edits, which calls have them, what the benchmark names, whole matches, worked images in tests, each tool and its options, CONTRIBUTING.md: there is no python3 here"
     echo "0 passed, 0 failed"
     exit 0
 fi
@@ -46,6 +46,8 @@ try 'requests' "$top/tests/random_served.py" 12 "$program"
 try 'commits' "$top/tests/commits.py" 40 "$program"
 try 'files that were edited' "$top/tests/edited_files.py" few "$program"
 try 'crashes of sessions' "$top/tests/crashes.py" 3 "$program"
+try 'the language server' "$top/tests/language_server.py" 100 "$program"
+try 'editors that tell it keys' "$top/tests/editor_keys.py" 60 0 "$program"
 try 'where bytes come from' "$top/tests/random_blames.py" 60 "$program"
 try 'the history of a file' "$top/tests/git_history.py" "$program"
 try 'what docs/START.md, docs/SCRIPTS.md and docs/SERVE.md show' "$top/tests/script_tour.py" "$program"
