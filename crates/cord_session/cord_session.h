@@ -212,6 +212,19 @@ struct cord_sizes {
 };
 uint32_t cord_session_sizes(struct cord_session *session, struct cord_sizes *sizes);
 
+/* The command of a revision, by the numbers that an image records; what it does not use is 0. CORD_DONE; CORD_NO_REVISION: *edit stays.
+ *   code r q  as in struct cord_command: of CORD_COMMAND_OPEN q is the source, of CORD_COMMAND_MANY how many changes there are.
+ *   balanced  1 where the rope of the revision's text is marked as balanced, else 0.
+ *   p         a place in the text of r.
+ *   m         how many bytes CORD_COMMAND_REPLACE takes out.
+ *   a n       the bytes that come in: n of the pool from a on; of CORD_COMMAND_PASTE and CORD_COMMAND_CUT n bytes of a text from a on, of
+ *             CORD_COMMAND_FILL n bytes a. CORD_COMMAND_DELETE takes n bytes out. */
+struct cord_edit {
+    uint32_t code, r, q, balanced;
+    uint64_t p, m, a, n;
+};
+uint32_t cord_session_edit(struct cord_session *session, uint32_t revision, struct cord_edit *edit);
+
 /* How long the text of a revision is. CORD_DONE; CORD_NO_REVISION: *len stays. */
 uint32_t cord_session_len(struct cord_session *session, uint32_t revision, uint64_t *len);
 

@@ -175,6 +175,29 @@ static void sought(struct cord_session *session, const struct cord_source *sourc
     CHECK(cord_session_compare(session, source, 1, k, 0, k, 0, 100, &order) == CORD_DONE && order == 1);
 }
 
+/* The command of revision k, as it was given where the pool had so many bytes. */
+static void told(struct cord_session *session, uint32_t k, const struct cord_command *c, uint64_t pool) {
+    static const char *const used[] = {"", "", "q", "rpan", "rpN", "rpman", "rpqIN", "rq", "rIN", "rpcN", "r", "r", "rk"};
+    struct cord_edit wanted = {.code = c->code}, edit;
+    for (const char *use = used[c->code]; *use; use++) switch (*use) {
+        case 'r': wanted.r = c->r; break;
+        case 'q': wanted.q = c->q; break;
+        case 'p': wanted.p = c->p; break;
+        case 'm': wanted.m = c->n; break;
+        case 'a': wanted.a = pool; break;
+        case 'n': wanted.n = c->bytes_len; break;
+        case 'N': wanted.n = c->n; break;
+        case 'I': wanted.a = c->i; break;
+        case 'c': wanted.a = c->byte; break;
+        default: wanted.q = (uint32_t)c->change_count;
+        }
+    CHECK(cord_session_edit(session, k, &edit) == CORD_DONE && edit.balanced <= 1);
+    CHECK(c->code != CORD_COMMAND_BALANCE || edit.balanced || text[k].len == 0);
+    wanted.balanced = edit.balanced;
+    CHECK(memcmp(&edit, &wanted, sizeof edit) == 0);
+    CHECK(cord_session_edit(session, count, &edit) == CORD_NO_REVISION && memcmp(&edit, &wanted, sizeof edit) == 0);
+}
+
 static void write_file(const char *name, const uint8_t *bytes, size_t len) {
     FILE *file = fopen(name, "wb");
     CHECK(file && fwrite(bytes, 1, len, file) == len && fclose(file) == 0);
@@ -199,6 +222,7 @@ int main(int argc, char **argv) {
         struct bytes wanted = {0};
         struct cord_command c = random_command(bytes, changes);
         bool right = model(&c, &wanted);
+        CHECK(cord_session_sizes(&session, &sizes) == CORD_DONE);
         uint32_t k = 77, answer = cord_session_apply(&session, &c, &k);
         CHECK((answer == CORD_DONE) == right && k == (right ? count : 77));
         if (!right) {
@@ -209,6 +233,7 @@ int main(int argc, char **argv) {
         text[count].bytes = wanted.at;
         text[count].len = wanted.len;
         count++;
+        told(&session, k, &c, sizes.pool);
         same_text(&session, &source, k, wanted.at, wanted.len);
         sought(&session, &source, k, wanted.at, wanted.len);
     }

@@ -5,6 +5,7 @@
 mod asking;
 mod codes;
 mod commands;
+mod edits;
 mod exports;
 mod handle;
 mod images;
@@ -17,6 +18,7 @@ mod store_making;
 pub use commands::CordCommand;
 pub use cord_store::CordStore;
 pub use cord_types::{CordRun, CordSource, CordVerdict};
+pub use edits::{CordEdit, cord_session_edit};
 pub use exports::{
     CordSizes, cord_session_add_source, cord_session_apply, cord_session_begin, cord_session_end,
     cord_session_len, cord_session_locate, cord_session_read, cord_session_sizes,
