@@ -8,9 +8,9 @@ use Rattle.cord_session.specs.declared.codes.TheConstants.{NO_REVISION}
 use Rattle.cord_session.specs.declared.edits.CordEdit.{CordEdit}
 
 -- 1 where a root is marked as balanced
-abbrev pub mark_number : Option Bool → ℕ
-mark_number (Some true) = 1
-mark_number _ = 0
+abbrev pub balance_number : Option Bool → ℕ
+balance_number (Some true) = 1
+balance_number _ = 0
 
 -- the code and the numbers that a command is recorded by, and the mark of its text's root
 abbrev pub told_edit : Edit → Option Bool → CordEdit
@@ -18,7 +18,7 @@ told_edit e mark = record {
   code = (recorded e).code;
   r = (numbers_of e).r;
   q = (numbers_of e).q;
-  balanced = mark_number mark;
+  balanced = balance_number mark;
   p = (numbers_of e).p;
   m = (numbers_of e).m;
   a = (numbers_of e).a;

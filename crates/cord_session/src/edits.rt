@@ -3,7 +3,7 @@
 ghost use Rattle.std.specs.Prelude.{◌≡◌};
 ghost use Rattle.edit_commands.specs.Session.{edit_of, mark_of};
 ghost use Rattle.cord_session.specs.Asked.{AsksSession};
-ghost use Rattle.cord_session.specs.Edits.{TellsEdit, mark_number, told_edit};
+ghost use Rattle.cord_session.specs.Edits.{TellsEdit, balance_number, told_edit};
 
 use crate::codes::NO_REVISION;
 use crate::handle::CordSession;
@@ -34,8 +34,8 @@ pub struct CordEdit {
 }
 
 /// 1 where a root is marked as balanced.
-fn mark_number(mark: Option<bool>) -> u32
-    ensures { result ≡ mark_number mark }
+fn balance_number(mark: Option<bool>) -> u32
+    ensures { result ≡ balance_number mark }
 {
     match mark {
         Some(true) => 1,
@@ -53,7 +53,7 @@ fn told_edit(edit: Edit, mark: Option<bool>) -> CordEdit
         code: u32::from(recorded.code),
         r: numbers.r,
         q: numbers.q,
-        balanced: mark_number(mark),
+        balanced: balance_number(mark),
         p: numbers.p,
         m: numbers.m,
         a: numbers.a,
