@@ -115,7 +115,7 @@ class Code(enum.IntEnum):
     MANY_SPLICES = 20, "the session's splices would be more than 16,777,216"
     TOO_LONG = 31, "a text of 2^40 bytes or more, or more than 65,536 bytes handed in at once"
     TABLE_FULL = 33, "there are as many nodes as there can be"
-    POOL_FULL = 34, "the bytes that were handed in would be more than 2^32 - 1"
+    POOL_FULL = 34, "the pool would have more than 2^32 - 1 bytes"
     BAD_SPAN = 35, "there is no such source, or the span is not inside it"
     MANY_SOURCES = 36, "there are 255 sources"
     NO_ROPE = 39, "the store has no such rope"
@@ -371,7 +371,7 @@ class Change(NamedTuple):
 
 
 class Sizes(ctypes.Structure):
-    """How many revisions, nodes and sources a session has, and how many bytes were handed in (pool)."""
+    """How many revisions, nodes and sources a session has, and how many bytes its pool has: those that were handed in, some of them twice."""
 
     _fields_ = [(name, ctypes.c_uint32) for name in ("revisions", "nodes", "sources", "_unused")]
     _fields_.append(("pool", ctypes.c_uint64))
@@ -726,7 +726,7 @@ class Session(_Owner):
 
     @property
     def sizes(self) -> Sizes:
-        """How many revisions, nodes and sources there are, and how many bytes were handed in."""
+        """How large the session is."""
         sizes = Sizes()
         self._call("sizes", ctypes.byref(sizes))
         return sizes

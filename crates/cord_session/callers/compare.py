@@ -121,6 +121,13 @@ def compared(chance, texts, place, text, many):
 # ---- Sessions
 
 
+def are_sizes(session):
+    """Whether these are the numbers of revisions and sources, and of bytes of a pool that has all that were handed in: it may have some twice."""
+    front = f"0 {len(session.texts)} {len(session.sources)} "
+    handed_in = sum(len(value) for _, values in session.commands for value in values if isinstance(value, bytes))
+    return lambda answer: answer.startswith(front) and int(answer[len(front) :]) >= handed_in
+
+
 def command_line(name, values):
     """A command as a call, or nothing where a word of it cannot be said."""
     if name == b"many":
@@ -171,8 +178,7 @@ def session_lines(lines, session, count):
         elif kind < 0.55:
             wrong_command(lines, session)
         elif kind < 0.58:
-            handed_in = sum(len(value) for _, values in session.commands for value in values if isinstance(value, bytes))
-            lines.add("s sizes", f"0 {len(session.texts)} {len(session.sources)} {handed_in}", ("cpp", "rust", "python"))
+            lines.add("s sizes", are_sizes(session), WRAPPED)
         else:
             question(lines, "s", session.texts, session.sources)
     return b"\n".join([*taken, b""])
@@ -234,7 +240,7 @@ def part_call(lines, ropes, sources):
 def function_call(lines, ropes):
     chance = lines.chance
     function, pattern, n = chance.choice([0, 1, 2, 3, 3, 4, FAR[1]]), random_bytes(chance, 18), chance.choice([0, 1, chance.randrange(400)])
-    is_one = function in FUNCTIONS and 1 <= len(pattern) <= 16
+    is_one = function in FUNCTIONS and 1 <= len(pattern) <= (16 if function == 3 else 17)
     text = bytes(FUNCTIONS[function](pattern, k) for k in range(n)) if is_one else None
     return add_rope(lines, ropes, f"t function {function} {spelled(pattern)} {n}", text, NO_COMMAND)
 
