@@ -1,5 +1,5 @@
-/* declared: each function and each macro of gc/cord.h, gc/cord_pos.h and gc/ec.h, beside what the headers' words say, and the printf family beside
- * that of the C library. Where a test needs what ends the program, a child does it. */
+/* declared [few]: each function and each macro of gc/cord.h, gc/cord_pos.h and gc/ec.h, beside what the headers' words say, and the printf family
+ * beside that of the C library. Where a test needs what ends the program, a child does it. `few` leaves out the cord of a million pieces. */
 #define _GNU_SOURCE
 #include "check.h"
 #include <signal.h>
@@ -362,10 +362,11 @@ static void test_children(void) {
     CHECK(child(too_long) == SIGABRT && strcmp(told, "handler\ncord: out of memory: a cord of 2^40 bytes or more\n") == 0);
 }
 
-int main(void) {
+int main(int argc, char **argv) {
+    bool few = argc == 2 && strcmp(argv[1], "few") == 0;
     test_making();
     test_chars();
-    test_many_pieces();
+    if (!few) test_many_pieces();
     test_extensible();
     test_walks();
     test_positions();

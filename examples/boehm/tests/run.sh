@@ -88,7 +88,7 @@ case ${CFLAGS:-} in
 esac
 if command -v valgrind > /dev/null && [ -z "${CFLAGS:-}" ]; then
     try valgrind -q --error-exitcode=9 --leak-check=full ./plain 1 100
-    try valgrind -q --error-exitcode=9 --leak-check=full ./declared
+    try valgrind -q --error-exitcode=9 --leak-check=full ./declared few
     try valgrind -q --error-exitcode=9 ./refused
 fi
 

@@ -1,4 +1,4 @@
-/* times: nanoseconds of the processor for each call, over whichever library of cord.h it is linked with; the least of five runs. `pieces` is a
+/* times: nanoseconds of the processor for each call, over whichever library of cord.h it is linked with; the least of three runs. `pieces` is a
  * megabyte that was made by insertions of ten bytes anywhere, 100,000 of them, and `whole` one that was read from a file. */
 #include <gc/cord.h>
 #include <stdint.h>
@@ -7,7 +7,7 @@
 #include <string.h>
 #include <time.h>
 
-enum { MANY = 100000, RUNS = 5 };
+enum { MANY = 100000, FEW = 20000, RUNS = 3 };
 static CORD pieces, whole;
 static uint64_t state = 7, sum;
 
@@ -52,7 +52,7 @@ static void substr_short(void) {
 
 static void insert_ten(void) {
     CORD x = whole;
-    for (int k = 0; k < MANY; k++) x = inserted(x, below(CORD_len(x)), "ten bytes.");
+    for (int k = 0; k < FEW; k++) x = inserted(x, below(CORD_len(x)), "ten bytes.");
     sum += CORD_len(x);
 }
 
@@ -93,7 +93,8 @@ static void told(const char *name, void (*job)(void), size_t calls) {
         double now = (double)(to.tv_sec - from.tv_sec) * 1e9 + (double)(to.tv_nsec - from.tv_nsec);
         least = now < least ? now : least;
     }
-    printf("%-42s %10.1f\n", name, least / (double)calls);
+    printf("%-44s %10.1f\n", name, least / (double)calls);
+    fflush(stdout);
 }
 
 int main(void) {
@@ -110,7 +111,7 @@ int main(void) {
     told("cat of two megabytes (CORD_cat)", cat, MANY);
     told("half a megabyte (CORD_substr)", substr, MANY);
     told("ten characters anywhere (CORD_substr)", substr_short, MANY);
-    told("insert ten anywhere in a megabyte", insert_ten, MANY);
+    told("insert ten anywhere in a megabyte", insert_ten, FEW);
     told("fetch anywhere, whole (CORD_fetch)", fetch_whole, MANY);
     told("fetch anywhere, pieces (CORD_fetch)", fetch_pieces, MANY);
     told("next, whole (CORD_FOR)", next_whole, CORD_len(whole));
