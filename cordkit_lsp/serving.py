@@ -45,7 +45,11 @@ class Serving:
 
     def why(self):
         """What the program told before it ended."""
-        status = self.child.wait()
+        try:
+            status = self.child.wait(10)
+        except subprocess.TimeoutExpired:
+            self.child.kill()
+            status = self.child.wait()
         self.told.seek(0)
         lines = self.told.read(PIECE).decode("utf-8", "replace").strip().splitlines()
         return " ".join(lines) or f"cordkit serve ended with status {status}"
