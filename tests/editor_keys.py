@@ -1,7 +1,7 @@
 #!/usr/bin/env python3
 """Editors that tell cordkit-lsp what is typed, each where it is installed: neovim and Emacs, by the client of the language server protocol that they have and by
 the one in examples. Random edits (tests/editor_keys.lua, tests/editor_keys.el): behind each the session's text is compared with the buffer's, in the file's form,
-byte by byte. A client that tells lines as they stand may differ nowhere; one of ranges behind one edit of twenty, until the next save. Then keys are
+byte by byte. A client that tells lines as they stand may differ nowhere; one of ranges behind one edit of ten, until the next save. Then keys are
 typed at random intervals into neovim in a terminal, with the lines of docs/EDITORS.md, while it, cordkit-lsp and cordkit serve are killed: what the client told is
 there, as it is read from what the client wrote, and each run of bytes was made in the minute that the times tell.
 
@@ -117,7 +117,7 @@ def edits(editor, client, form, count):
         require(last, f"status {done.returncode}: {done.stderr[-300:]!r} {told[-2:]}")
         compared, differ = map(int, last.groups())
         differing = [line for line in told if line.startswith("differs")]
-        most = count // 20 if client == "lsp" else 0
+        most = count // 10 if client == "lsp" else 0
         require(compared == count + 2 and differ <= most, f"{differ} of {compared} differ: {differing[:2]}")
         require(not any("save" in line.partition(":")[0] for line in differing), f"behind a save: {differing}")
         require(not [line for line in told if line.startswith("the file is not")], "the file is not the buffer")
