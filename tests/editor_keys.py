@@ -82,8 +82,8 @@ def servers(folder):
 
 
 def ended(folder):
-    """Whether all servers come to their end."""
-    for _ in range(200):
+    """Whether all servers come to their end; each saves its image first."""
+    for _ in range(1200):
         if not servers(folder):
             return True
         time.sleep(0.1)
