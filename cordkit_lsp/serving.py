@@ -3,6 +3,7 @@
 import collections
 import os
 import subprocess
+import sys
 import tempfile
 from typing import NamedTuple, Optional
 
@@ -27,7 +28,9 @@ class Asked(NamedTuple):
 
 
 def program():
-    return os.environ.get("CORDKIT", "cordkit")
+    """The program: $CORDKIT, or else cordkit beside the command that runs, or the one in the path."""
+    beside = os.path.join(os.path.dirname(os.path.realpath(sys.argv[0])), "cordkit")
+    return os.environ.get("CORDKIT") or (beside if os.access(beside, os.X_OK) else "cordkit")
 
 
 class Serving:
