@@ -171,11 +171,11 @@ def by_chance(path, count):
     killed = 0
     for number in range(count):
         client.tell("didChange", contentChanges=[edits.one() for _ in range(chance.choice([1, 1, 1, 2, 5]))])
-        if chance.random() < 0.03:
+        if number == count // 3 or chance.random() < 0.03:
             for child in client.served():
                 os.kill(child, 9)
                 killed += 1
-        if chance.random() < 0.02:
+        if number == count // 2 or chance.random() < 0.02:
             require(client.kept()[1] == edits.text.encode(), f"before the kill at {number}: another text")
             client.kill()
             killed += 1
