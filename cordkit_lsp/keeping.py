@@ -109,7 +109,7 @@ class Keeper:
         for _ in range(MOST_TRIES):
             if self.run(what):
                 return
-        raise Lost("the session ends again and again")
+        raise self.lost("the session ends again and again")
 
     def again(self):
         """Begins the session again, gives what was not answered and is not there, and compares the texts."""
@@ -211,8 +211,9 @@ class Keeper:
             text = change["text"]
             self.retell(self.mirror.form, text)
             return
+        words = "" if self.mirror.is_there(change["range"]) else "a range that cannot be"
         found = self.mirror.splice(change)
-        self.run(self.make, found, self.mirror.kept)
+        self.run(self.make, found, self.mirror.kept, words)
 
     def saved(self, told):
         """The file was saved, with this text where it is told: the last text is the file's then."""

@@ -78,6 +78,11 @@ class Mirror:
             return len(self.lines) - 1, len(self.lines[-1])
         return line, index_in(self.lines[line], told["character"], self.counted)
 
+    def is_there(self, span):
+        """Whether a range can be one of this text: its end not before its start, nor behind the start of the line behind the last."""
+        start, end = [(span[name]["line"], span[name]["character"]) for name in ("start", "end")]
+        return start <= end <= (len(self.lines), 0)
+
     def place(self, position):
         line, index = position
         return min(self.start(line) + len(self.form.written(self.lines[line][:index])), len(self.kept))

@@ -4,14 +4,13 @@ import re
 
 SHORT = {10: b"\\n", 9: b"\\t", 13: b"\\r", 92: b"\\\\", 34: b'\\"'}
 PRINTED = [SHORT.get(byte) or (bytes([byte]) if 32 <= byte < 127 else b"\\x%02x" % byte) for byte in range(256)]
-PLAIN = re.compile(rb'[ !#-\[\]-~]*')
+OTHER = re.compile(rb'[^ !#-\[\]-~]')
 ESCAPED = re.compile(rb"\\(?:x(..)|(.))", re.DOTALL)
 MEANT = {b"n": b"\n", b"t": b"\t", b"r": b"\r", b"\\": b"\\", b'"': b'"'}
 
 
 def quoted(text):
-    inside = bytes(text) if PLAIN.fullmatch(text) else b"".join(map(PRINTED.__getitem__, text))
-    return b'"' + inside + b'"'
+    return b'"' + OTHER.sub(lambda found: PRINTED[found[0][0]], text) + b'"'
 
 
 def unquoted(word):

@@ -3,6 +3,7 @@
 import collections
 import os
 import subprocess
+import sys
 import tempfile
 from typing import NamedTuple, Optional
 
@@ -27,7 +28,9 @@ class Asked(NamedTuple):
 
 
 def program():
-    return os.environ.get("CORDKIT", "cordkit")
+    """The program: $CORDKIT, or else cordkit beside the command that runs, or the one in the path."""
+    beside = os.path.join(os.path.dirname(os.path.realpath(sys.argv[0])), "cordkit")
+    return os.environ.get("CORDKIT") or (beside if os.access(beside, os.X_OK) else "cordkit")
 
 
 class Serving:
@@ -45,7 +48,11 @@ class Serving:
 
     def why(self):
         """What the program told before it ended."""
-        status = self.child.wait()
+        try:
+            status = self.child.wait(10)
+        except subprocess.TimeoutExpired:
+            self.child.kill()
+            status = self.child.wait()
         self.told.seek(0)
         lines = self.told.read(PIECE).decode("utf-8", "replace").strip().splitlines()
         return " ".join(lines) or f"cordkit serve ended with status {status}"

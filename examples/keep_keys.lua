@@ -1,6 +1,6 @@
 -- Tells cordkit-lsp each change of a file in neovim at once, gathering none (docs/EDITORS.md): require('keep_keys').start({ '*.txt' }), the words of
 -- cordkit-lsp. A change is told by whole lines, which are looked up as they stand; cordkit-lsp finds what changed in them.
-local M = { number = 0 }
+local M = { told = {} }
 
 local function send(method, params, id)
   local body = vim.json.encode({ jsonrpc = '2.0', id = id, method = method, params = params })
@@ -26,12 +26,19 @@ local function change(_, buffer, _, first, last, new_last)
   tell(buffer, 'didChange', { contentChanges = { { range = range, text = lines_of(buffer, first - before, new_last + behind) } } })
 end
 
+-- Where a tab takes the place of blanks, neovim 0.7 does not tell it: the line of the cursor is told once more.
+local function line_again(it)
+  local line = vim.api.nvim_win_get_cursor(0)[1]
+  if M.told[it.buf] then change(nil, it.buf, nil, line - 1, line, line) end
+end
+
 local function open(buffer)
   tell(buffer, 'didOpen', { text = lines_of(buffer, 0, -1) })
+  M.told[buffer] = true
   vim.api.nvim_buf_attach(buffer, false, {
     on_lines = change,
     on_reload = function() tell(buffer, 'didChange', { contentChanges = { { text = lines_of(buffer, 0, -1) } } }) end,
-    on_detach = function() tell(buffer, 'didClose', {}) end,
+    on_detach = function() M.told[buffer] = nil tell(buffer, 'didClose', {}) end,
   })
 end
 
@@ -40,6 +47,7 @@ function M.start(words)
   M.job = vim.fn.jobstart(vim.list_extend({ M.program or 'cordkit-lsp' }, words), { on_stdout = seen })
   send('initialize', { clientInfo = { name = 'Neovim' }, capabilities = { general = { positionEncodings = { 'utf-8' } } } }, 0)
   vim.api.nvim_create_autocmd({ 'BufReadPost', 'BufNewFile' }, { callback = function(it) if vim.bo[it.buf].buftype == '' then open(it.buf) end end })
+  vim.api.nvim_create_autocmd({ 'TextChangedI', 'InsertLeave' }, { callback = line_again })
   vim.api.nvim_create_autocmd('BufWritePost', { callback = function(it) tell(it.buf, 'didSave', { text = lines_of(it.buf, 0, -1) }) end })
 end
 

@@ -171,11 +171,11 @@ def by_chance(path, count):
     killed = 0
     for number in range(count):
         client.tell("didChange", contentChanges=[edits.one() for _ in range(chance.choice([1, 1, 1, 2, 5]))])
-        if chance.random() < 0.03:
+        if number == count // 3 or chance.random() < 0.03:
             for child in client.served():
                 os.kill(child, 9)
                 killed += 1
-        if chance.random() < 0.02:
+        if number == count // 2 or chance.random() < 0.02:
             require(client.kept()[1] == edits.text.encode(), f"before the kill at {number}: another text")
             client.kill()
             killed += 1
@@ -332,6 +332,7 @@ def set_right(path, _):
     require(client.kept()[1] == b"1\ntwo 2\nthree 3\n", f"{client.kept()}")
     client.tell("didChange", contentChanges=[{"range": {"start": {"line": 90, "character": 7}, "end": {"line": 99, "character": 0}}, "text": "end"}])
     require(client.kept()[1] == b"1\ntwo 2\nthree 3\nend", f"behind the text: {client.kept()}")
+    require(read(path + ".times").decode().endswith(" a range that cannot be\n"), "the times do not tell it")
     write(path, b"not told\n")
     client.save("other\n")
     require(client.kept()[1] == b"other\n", f"{client.kept()}")
@@ -528,10 +529,11 @@ def refused(path, _):
     require(client.kept() == (None, None) and any("n é.txt.times" in line for line in client.told), f"{client.told}")
     client.end()
     os.rmdir(path + ".times")
-    client = Client(path, CORDKIT="/no/such/program")
-    client.open("one\n")
-    require(client.kept() == (None, None) and any("not recorded" in line for line in client.told), f"{client.told}")
-    client.end()
+    for program in "/no/such/program", "/bin/false":
+        client = Client(path, CORDKIT=program)
+        client.open("one\n")
+        require(client.kept() == (None, None) and any("not recorded" in line for line in client.told), f"{program}: {client.told}")
+        client.end()
     for wrong in (b"Content-Length: 3\r\n\r\nabc", b"Length: 3\r\n\r\nabc", b"Content-Length: 2\r\n\r\n[]"):
         done = run(SERVER, **{"input": wrong})
         require(done.returncode == 1 and done.stderr.startswith(b"cordkit-lsp: a message "), f"{wrong!r}: {done}")
