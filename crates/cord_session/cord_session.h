@@ -50,7 +50,7 @@ extern "C" {
 #define CORD_MANY_SPLICES 20u   /* E10: the session's splices would be more than 16,777,216 */
 #define CORD_TOO_LONG 31u       /* N1: a text of 2^40 bytes or more, or more than 65,536 bytes handed in at once */
 #define CORD_TABLE_FULL 33u     /* N3: there are as many nodes as there can be */
-#define CORD_POOL_FULL 34u      /* N4: the bytes that were handed in would be more than 2^32 - 1 */
+#define CORD_POOL_FULL 34u      /* N4: the pool would be longer than 2^32 - 1 */
 #define CORD_BAD_SPAN 35u       /* N5: there is no such source, or the span is not inside it */
 #define CORD_MANY_SOURCES 36u   /* N6: there are 255 sources */
 #define CORD_NO_ROPE 39u        /* the store has no such rope */
@@ -205,7 +205,8 @@ struct cord_command {
  *     E10, N1; or what was met on the way: N3, N4, E8, E6, CORD_MEMORY. */
 uint32_t cord_session_apply(struct cord_session *session, const struct cord_command *command, uint32_t *revision);
 
-/* How many revisions, nodes and sources there are, and how many bytes were handed in. CORD_DONE. */
+/* How many revisions, nodes and sources there are, and how long the pool is: of bytes that were handed in, and of short pieces that were put
+ * together. CORD_DONE. */
 struct cord_sizes {
     uint32_t revisions, nodes, sources, unused;
     uint64_t pool;

@@ -17,7 +17,7 @@ pub record AsksKept (old new : Option Kept) (outcome : ℕ) (Stays : Type 0) (P 
   pub closed : old ≡ None → (outcome ≡ CLOSED) × Stays
   pub told : (k : Kept) → old ≡ Some k → P k
 
--- how many revisions, nodes and sources a session has, and how many bytes were handed in
+-- how many revisions, nodes and sources a session has, and how long its pool is
 abbrev pub sizes_of : SessionValue → CordSizes
 sizes_of v = record {
   revisions = length v.revisions;

@@ -31,7 +31,7 @@ pub struct CordSizes {
     pub sources: u32,
     /// It is 0.
     pub unused: u32,
-    /// How many bytes were handed in.
+    /// How long its pool is.
     pub pool: u64,
 }
 
