@@ -590,10 +590,15 @@ refused J5
 saved 5
 5 7
 synced 5 served served_anew 7'
+    : > answers
+    { printf 'last\n' && await_lines 1 answers && chmod 640 served && printf 'back 5\nsave\n'; } | "$program" serve served > answers
+    is 'an image that gets another mode' "$(cat answers) $(echo served*) $(stat -c %a served)" '5 7
+6 7
+saved 6 served served_anew 640'
     { printf 'CORDKEYS' && head -c 48 /dev/zero && printf a; } > served.keys
     try 'keys beside the image' 'serve --explain served' requests 1 '' 'refused J2\nJ2: a session keeps its keys in served.keys, and has not saved them\n'
     truncate -s 56 served.keys
-    try 'no keys beside the image' 'serve served' requests 0 '5 7\n' ''
+    try 'no keys beside the image' 'serve served' requests 0 '6 7\n' ''
     printf 'open 0\nlast\ninsert 0 3 "d"\nbytes 1 1 3\nfind 1 1 "cd"\nsave\n' > requests
     try 'over a file' 'serve served_over abc' requests 0 '0 3\n0 3\n1 4\n"bcd"\n2\nsaved 1\n' ''
     is 'its digest beside the image' "$(echo served_over*) $(cat served_over.sources)" "served_over served_over.sources $(line_over abc)"

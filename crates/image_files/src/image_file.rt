@@ -306,10 +306,14 @@ impl<'a> ImageFile<'a> {
         };
     }
 
-    /// The same, of a file that is still so. A second name of it, which a call that failed has left, is taken away first.
+    /// The same, of a file that still has the bytes that it had. Its mode may be another one, and a second name of it, which a
+    /// call that failed has left, is taken away first.
     pub fn replace_still(&mut self, begun: Option<FileState>) {
-        let there = state_at(self.rt, self.path.as_str());
-        let begun = if there == begun { self.look() } else { begun };
+        let is_still = match (state_at(self.rt, self.path.as_str()), begun) {
+            (Some(now), Some(then)) => now.has_bytes_of(then),
+            _ => false,
+        };
+        let begun = if is_still { self.look() } else { begun };
         self.replace_only(begun);
     }
 
