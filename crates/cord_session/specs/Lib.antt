@@ -4,3 +4,4 @@ pub mod Applied
 pub mod Sessions
 pub mod Asked
 pub mod Images
+pub mod Origins
