@@ -5,7 +5,7 @@ use Rattle.std.specs.Option.{option_map}
 use Rattle.std.proofs.lemmas.Bool.{cases_lt}
 use Rattle.std.proofs.lemmas.List.{get_or_past, length-map}
 use Rattle.std.proofs.lemmas.List.Sums.{sum_by_more_le}
-use Rattle.std.proofs.lemmas.Option.{same_Some, get_or_from_slice_get}
+use Rattle.std.proofs.lemmas.Option.{none-some, same_Some, get_or_from_slice_get}
 use Rattle.function_leaf.specs.Coded.{coded_byte}
 use Rattle.function_leaf.specs.Optional.{answer_of}
 use Rattle.rope_node.specs.declared.node.NodeId.{NodeId}
@@ -40,8 +40,11 @@ use Rattle.session_image.proofs.Trusted.{trusted}
 use Rattle.session_origins.specs.SessionHistories.{own_splices}
 
 -- the image's table is the session's
+table_is : (v : SessionValue) → IsKept coded_byte v.held → image_table (image_of v) ≡ session_table v
+table_is v kept = λ i. record { nodes = same_nodes v.held i; pool = v.held.pool.bytes; sources = v.held.sources; answer = λ id k. answer_of coded_byte (same_function v.held kept id i) k }
+
 pub same_table : (v : SessionValue) → IsKept coded_byte v.held → session_table v ≡ image_table (image_of v)
-same_table v kept = sym (λ i. record { nodes = same_nodes v.held i; pool = v.held.pool.bytes; sources = v.held.sources; answer = λ id k. answer_of coded_byte (same_function v.held kept id i) k })
+same_table v kept = sym (table_is v kept)
 
 -- each record of the image is true
 pub true_records_of : (v : SessionValue) → IsKept coded_byte v.held → IsSession v → IsSound (session_table v) → HasTrueRecords (session_table v) → HasTrueRecordsOf (image_of v)
@@ -100,7 +103,7 @@ module _ (v : SessionValue) (session : IsSession v) (k : ℕ) (there : k < lengt
   edit_is edit o is some = same_Some found.0.edit edit (sym (ap (option_map (λ (r : Kept.Revision). r.edit)) found.1) ∙ sym is ∙ some)
 
   pub edit_there : (o : Option Edit) → o ≡ edit_of v k → o ≡ None → ⊥
-  edit_there o is none = let some : edit_of v k ≡ Some found.0.edit = ap (option_map (λ (r : Kept.Revision). r.edit)) found.1 in absurd cc
+  edit_there o is none = none-some found.0.edit (sym none ∙ is ∙ ap (option_map (λ (r : Kept.Revision). r.edit)) found.1)
 
   -- it names its own splices, and says among them what the image's says
   pub names_own : (edit : Edit) (o : Option Edit) → o ≡ edit_of v k → o ≡ Some edit → NamesThese (splices_held (take k v.revisions)) (own_splices v k) edit

@@ -1,2 +1,0 @@
--- Where a byte comes from, as numbers.
-pub use Rattle.cord_types.specs.ToldOrigins.{origin_numbers, IsToldOrigin}
