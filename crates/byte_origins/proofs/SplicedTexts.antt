@@ -167,7 +167,7 @@ splice_is v k place r own edit s found true there inside says is e =
 -- ---- two edits that say the same
 
 -- the splice of a command, by what it says
-splice_of : FullEdit → Option (ℕ × Splice)
+abbrev splice_of : FullEdit → Option (ℕ × Splice)
 splice_of (FullEdit.Insert r p a n) = Some (r, record { p = p; m = 0; a = a; n = n })
 splice_of (FullEdit.Delete r p n) = Some (r, record { p = p; m = n; a = 0; n = 0 })
 splice_of (FullEdit.Replace r p m a n) = Some (r, record { p = p; m = m; a = a; n = n })
