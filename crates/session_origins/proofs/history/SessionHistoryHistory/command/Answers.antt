@@ -4,15 +4,15 @@ use Rattle.session_origins.specs.SessionHistories.{own_splices}
 use Rattle.session_origins.proofs.SessionHistories.{edit_there, names_own, own_few, says_own}
 use Rattle.session_origins.proofs.history.SessionHistoryHistory.command.Goals as goal
 
-pub returns-in-Some-clause-says : goal.returns-in-Some-clause-says
-returns-in-Some-clause-says c =
+pub returns-clause-says : goal.returns-clause-says
+returns-clause-says c =
     let v = c.args.self.0.now in
     let session = c.count-count.ensures.session in
     c.over_its_own.ensures.says (splices_held (take c.args.k v.revisions)) (own_splices v c.args.k) (names_own v session c.args.k c.requires.there c.in-Some.edit c.edit.result c.edit.ensures c.in-Some.is)
     ∙ says_own v session c.args.k c.requires.there c.in-Some.edit c.edit.result c.edit.ensures c.in-Some.is
 
-pub returns-in-Some-clause-names : goal.returns-in-Some-clause-names
-returns-in-Some-clause-names c =
+pub returns-clause-names : goal.returns-clause-names
+returns-clause-names c =
     let v = c.args.self.0.now in
     let session = c.count-count.ensures.session in
     let few = own_few v session c.args.k c.requires.there in
