@@ -25,6 +25,7 @@ EXCUSED = {
     ("crates/cordkit/src/main.rt", "run_session"): "run names each tool, and hands some of them here: one dispatch in six short functions",
     ("crates/cordkit/src/main.rt", "run_states"): "run names each tool, and hands some of them here: one dispatch in six short functions",
     ("crates/edit_commands/src/known.rt", "over_its_own"): "gives back each command as it is but the one with splices; full_edit says what each means",
+    ("crates/session_origins/src/history.rt", "over_its_own"): "gives back each command as it is but the one with splices; full_edit says what each means",
     ("crates/rebalance/src/pieces.rt", "leaf_part"): "a test stands beside its one kind: every leaf but a short function is cut, a long function too",
     ("crates/saved_session/src/taking.rt", "splices_named"): "only one kind has splices, and named_splices says what each kind names",
     ("crates/screen_editor/src/known.rt", "lines_after"): "of each key LinesBehind is proved, so one that changes lines cannot pass for one that keeps them",

@@ -242,6 +242,10 @@ uint32_t cord_session_rchr(struct cord_session *session, const struct cord_sourc
 uint32_t cord_session_compare(struct cord_session *session, const struct cord_source *sources, size_t source_count, uint32_t r,
                               uint64_t i, uint32_t q, uint64_t j, uint64_t n, uint32_t *order);
 
+/* Where the byte at a place of the text of a revision comes from, as cord_origin tells it of the session's image, which need not be made for
+ * it. It needs no source and takes no memory. CORD_DONE; CORD_NO_REVISION; CORD_RANGE: there is no such place. Else *origin stays. */
+uint32_t cord_session_origin(struct cord_session *session, uint32_t revision, uint64_t place, struct cord_origin *origin);
+
 /* Makes the session's image, which cordkit check, cord_check and cord_session_resume take, and holds it until the next is made, or
  * cord_session_forget, or the end. *len is its length. CORD_DONE; CORD_MEMORY: *len and what was held stay. */
 uint32_t cord_session_save(struct cord_session *session, uint64_t *len);

@@ -12,9 +12,8 @@ use Rattle.command_parts.specs.declared.edit.Splice.{Splice}
 use Rattle.command_parts.specs.declared.part.Part.{Part}
 use Rattle.command_parts.specs.Commands.{FullEdit, full_edit}
 use Rattle.command_parts.specs.Parts.{part_at, part_len, parts_len, nonempty, parts_of, root_at, IsInRange}
-use Rattle.image_reader.specs.declared.revision.Revision.{Revision}
 use Rattle.image_reader.specs.Value.{ImageValue}
-use Rattle.image_reader.specs.Accepted.{revision_at, KeepsRules}
+use Rattle.image_reader.specs.Accepted.{command_at, KeepsRules}
 use Rattle.session_checker.specs.Faithful.{HasTrueRecordsOf, EachRevision}
 use Rattle.session_checker.proofs.ResultLengths.{nonempty_len}
 use Rattle.byte_origins.specs.declared.taking.CameFrom.TheVariants.{FromText}
@@ -127,16 +126,16 @@ module _ (v : ImageValue) (is : HasTrueRecordsOf v) (rules : EachRevision v (Kee
   moved : (place q r : ℕ) (u s : Splice) → q ≡ r → u ≡ s → PutsSplice v k place q u → PutsSplice v k place r s
   moved place q r u s e f h = subst (λ (j : ℕ). PutsSplice v k place j s) e (subst (PutsSplice v k place q) f h)
 
-  pub puts_splice : (place r : ℕ) (s : Splice) → place < len_of_text v k → one_splice (revision_at v k).edit ≡ Some (r, s) → PutsSplice v k place r s
-  puts_splice place r s inside = by_edit (revision_at v k).edit refl
+  pub puts_splice : (own : List Splice) (edit : Edit) (place r : ℕ) (s : Splice) → place < len_of_text v k → full_edit own edit ≡ command_at v k → one_splice edit ≡ Some (r, s) → PutsSplice v k place r s
+  puts_splice own edit place r s inside = by_edit edit
     where
-      range_of : (edit : Edit) → (revision_at v k).edit ≡ edit → IsInRange (texts_table v k) (texts_roots v k) (full_edit v.splices edit)
-      range_of edit e = subst (λ (x : Edit). IsInRange (texts_table v k) (texts_roots v k) (full_edit v.splices x)) e (texts_in_range v is rules k there)
+      range_of : (edit : Edit) → full_edit own edit ≡ command_at v k → IsInRange (texts_table v k) (texts_roots v k) (full_edit own edit)
+      range_of edit e = subst (IsInRange (texts_table v k) (texts_roots v k)) (sym e) (texts_in_range v is rules k there)
 
-      parts_are : (edit : Edit) → (revision_at v k).edit ≡ edit → texts_parts v k ≡ parts_of (texts_table v k) (texts_roots v k) (full_edit v.splices edit)
-      parts_are edit e = ap (λ (x : Edit). parts_of (texts_table v k) (texts_roots v k) (full_edit v.splices x)) e
+      parts_are : (edit : Edit) → full_edit own edit ≡ command_at v k → texts_parts v k ≡ parts_of (texts_table v k) (texts_roots v k) (full_edit own edit)
+      parts_are edit e = ap (parts_of (texts_table v k) (texts_roots v k)) (sym e)
 
-      by_edit : (edit : Edit) → (revision_at v k).edit ≡ edit → one_splice edit ≡ Some (r, s) → PutsSplice v k place r s
+      by_edit : (edit : Edit) → full_edit own edit ≡ command_at v k → one_splice edit ≡ Some (r, s) → PutsSplice v k place r s
       by_edit (Edit.Insert q p a n) e one =
           let u : Splice = record { p = p; m = 0; a = a; n = n } in
           let same = some_pair_parts q r u s one in
@@ -159,8 +158,35 @@ module _ (v : ImageValue) (is : HasTrueRecordsOf v) (rules : EachRevision v (Kee
           moved place q r u s same.0 same.1 (puts place q u range.0 range.1 range.3 inside (parts_are (Edit.Replace q p m a n) e))
       by_edit _ e one = absurd (none-some {A = ℕ × Splice} (r, s) one)
 
--- the splice that was found is that of the command of text k
-pub splice_is : (v u : ImageValue) (k place r : ℕ) (x : Revision) (s : Splice) (found : Option (ℕ × Splice)) → HasTrueRecordsOf v → k < length v.revisions → place < len_of_text v k
-    → u ≡ v → x ≡ revision_at u k → found ≡ one_splice x.edit → found ≡ Some (r, s) → PutsSplice v k place r s
-splice_is v u k place r x s found true there inside same at is e =
-    puts_splice v true true.rules k there place r s inside (ap (λ (w : ImageValue). one_splice (revision_at w k).edit) (sym same) ∙ ap (λ (y : Revision). one_splice y.edit) (sym at) ∙ sym is ∙ e)
+-- the splice that was found is that of the command of text k, which this edit says among its own splices
+pub splice_is : (v : ImageValue) (k place r : ℕ) (own : List Splice) (edit : Edit) (s : Splice) (found : Option (ℕ × Splice)) → HasTrueRecordsOf v → k < length v.revisions → place < len_of_text v k
+    → full_edit own edit ≡ command_at v k → found ≡ one_splice edit → found ≡ Some (r, s) → PutsSplice v k place r s
+splice_is v k place r own edit s found true there inside says is e =
+    puts_splice v true true.rules k there own edit place r s inside says (sym is ∙ e)
+
+-- ---- two edits that say the same
+
+-- the splice of a command, by what it says
+abbrev splice_of : FullEdit → Option (ℕ × Splice)
+splice_of (FullEdit.Insert r p a n) = Some (r, record { p = p; m = 0; a = a; n = n })
+splice_of (FullEdit.Delete r p n) = Some (r, record { p = p; m = n; a = 0; n = 0 })
+splice_of (FullEdit.Replace r p m a n) = Some (r, record { p = p; m = m; a = a; n = n })
+splice_of _ = None
+
+splice_said : (own : List Splice) (edit : Edit) → splice_of (full_edit own edit) ≡ one_splice edit
+splice_said own (Edit.Insert r p a n) = refl
+splice_said own (Edit.Delete r p n) = refl
+splice_said own (Edit.Replace r p m a n) = refl
+splice_said own Edit.New = refl
+splice_said own (Edit.Open s) = refl
+splice_said own (Edit.Paste r p q i n) = refl
+splice_said own (Edit.Join r q) = refl
+splice_said own (Edit.Cut r i n) = refl
+splice_said own (Edit.Fill r p c n) = refl
+splice_said own (Edit.Back r) = refl
+splice_said own (Edit.Balance r) = refl
+splice_said own (Edit.Many r first count) = refl
+
+-- put the same splice
+pub same_splice : (own all : List Splice) (edit other : Edit) → full_edit own edit ≡ full_edit all other → one_splice edit ≡ one_splice other
+same_splice own all edit other e = sym (splice_said own edit) ∙ ap splice_of e ∙ splice_said all other

@@ -1,5 +1,6 @@
 pub mod Behind
 pub mod Origins
+pub mod Histories
 pub mod EarlierTexts
 pub mod KeptEnds
 pub mod StepsBack

@@ -3,6 +3,7 @@
 
 mod arrivals;
 mod descent;
+mod history;
 mod joining;
 mod laws;
 mod origin_store;
@@ -16,6 +17,7 @@ mod tracing;
 mod walking;
 
 pub use descent::leaf_span;
+pub use history::History;
 pub use joining::Origins;
 pub use laws::{
     as_many_as_bytes, brought_by_its_command, goes_back_whole, keeps_both_ends, names_each_byte,

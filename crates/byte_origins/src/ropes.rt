@@ -11,12 +11,12 @@ ghost use Rattle.byte_origins.specs.Origins.{origins_at, IsOriginRun};
 ghost use Rattle.byte_origins.specs.OriginTexts.{ropes_table, CanBePut, KeepsTexts, Names, NameTexts};
 ghost use Rattle.byte_origins.specs.StepsBack.{came_len, IsStepBack};
 
+use crate::history::History;
 use crate::origin_store::OriginStore;
 use crate::run::OriginRun;
 use crate::starts::{next_start, splices_before};
 use crate::taking::{CameFrom, command_parts, taken_of};
 use crate::texts::TextsBefore;
-use image_reader::Revisions;
 use rope_node::Rope;
 use session_checker::Checked;
 use std::alloc::Global;
@@ -57,8 +57,8 @@ fn text(
     let _count = image.revisions();
     let _brought = texts.count();
     let before = TextsBefore::of(image, k);
-    let revisions = Revisions::over(image.image());
-    let mut rest = command_parts(image, &revisions, k, first);
+    let splices = image.splices(k);
+    let mut rest = command_parts(image, &splices, k, first);
     let mut place = 0;
     let mut built = None;
     while let Some(part) = rest.next() {

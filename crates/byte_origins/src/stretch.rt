@@ -1,6 +1,6 @@
 //! Stretches of texts whose origins are still to be told.
 
-// The lines `let _count = image.revisions();` are for the proof: the image's records are true, as this call says.
+// The lines `let _count = ..` are for the proof: the records of the history or image are true, as these calls say.
 
 ghost use Rattle.std.specs.Prelude.{ℕ, ◌≡◌, ◌↔◌, ◌+◌, ◌<◌, ◌≤◌, ◌^◌, ◌++◌, [], length, min, IfOk, IfSome, IsSome, OnErr, MatchOption, vec_len, vec_capacity};
 ghost use Rattle.std.specs.List.{AllByRecursion};
@@ -11,12 +11,12 @@ ghost use Rattle.byte_origins.specs.StepsBack.{IsStepBack};
 ghost use Rattle.command_parts.specs.declared.edit.Splice.{Splice};
 ghost use Rattle.byte_origins.specs.Stretches.{IsBesideSplice, IsMoved, IsRestOf, IsStretch, left_origins, put_back, splice_starts, stretch_behind};
 
+use crate::history::History;
 use crate::ropes::Ropes;
 use crate::run::OriginRun;
 use crate::starts::{first_splice, lowered, start_of};
 use crate::taking::{CameFrom, one_splice, place_beside, taken_counted};
-use image_reader::Revisions;
-use rope_node::rope_len;
+use crate::texts::len_of_text;
 use session_checker::Checked;
 use std::alloc::AllocError;
 
@@ -31,15 +31,14 @@ pub struct Stretch {
 
 impl Stretch {
     /// The rest of the text of revision `k` from a place on, where it has that place.
-    pub fn rest_of(image: &Checked, k: u32, place: u64) -> Option<Stretch>
-        ensures there { IsSome result ↔ place < length (origins_at image.now k) }
-        ensures rest { IfSome result (IsRestOf image.now k place) }
+    pub fn rest_of<H: History>(history: H, k: u32, place: u64) -> Option<Stretch>
+        ensures there { IsSome result ↔ place < length (origins_at (H.image history) k) }
+        ensures rest { IfSome result (IsRestOf (H.image history) k place) }
     {
-        let _count = image.revisions();
-        let Some(root) = image.root(k) else {
+        if k >= history.revision_count() {
             return None;
-        };
-        let all = rope_len(image, root);
+        }
+        let all = len_of_text(history, k);
         if place >= all {
             return None;
         }
@@ -47,7 +46,7 @@ impl Stretch {
             revision: k,
             place,
             len: all - place,
-            first: first_splice(image, k),
+            first: first_splice(history, k),
         })
     }
 
@@ -66,15 +65,14 @@ impl Stretch {
 
     /// The same bytes in the text into which their command puts one splice, where it puts it in front of them all or behind
     /// them all. For this no length of a text is looked at.
-    pub fn moved(self, image: &Checked) -> Option<Stretch>
-        requires { IsStretch image.now self }
-        ensures moved { IfSome result (IsMoved image.now self) }
-        ensures found { (r : ℕ) (s : Splice) → IsBesideSplice image.now self r s → IsSome result }
+    pub fn moved<H: History>(self, history: H) -> Option<Stretch>
+        requires { IsStretch (H.image history) self }
+        ensures moved { IfSome result (IsMoved (H.image history) self) }
+        ensures found { (r : ℕ) (s : Splice) → IsBesideSplice (H.image history) self r s → IsSome result }
     {
-        let _count = image.revisions();
-        let revisions = Revisions::over(image.image());
-        let revision = revisions.revision(self.revision, self.first);
-        let Some((r, splice)) = one_splice(revision.edit) else {
+        let _count = history.revision_count();
+        let edit = history.command(self.revision, self.first);
+        let Some((r, splice)) = one_splice(edit) else {
             return None;
         };
         let Some(place) = place_beside(splice, self.place, self.len) else {
@@ -84,26 +82,26 @@ impl Stretch {
             revision: r,
             place,
             len: self.len,
-            first: lowered(image, self.revision, self.first, r),
+            first: lowered(history, self.revision, self.first, r),
         })
     }
 
     /// At most `n` bytes of the earlier text `j` from `place` on, in place of its own.
-    pub fn earlier(self, image: &Checked, j: u32, place: u64, n: u64) -> Stretch
-        requires stretch { IsStretch image.now self }
+    pub fn earlier<H: History>(self, history: H, j: u32, place: u64, n: u64) -> Stretch
+        requires stretch { IsStretch (H.image history) self }
         requires earlier { j < self.revision }
         ensures { result ≡ record {
           revision = j;
           place = place;
           len = min self.len n;
-          first = splices_before image.now j;
+          first = splices_before (H.image history) j;
         } }
     {
         Stretch {
             revision: j,
             place,
             len: self.len.min(n),
-            first: lowered(image, self.revision, self.first, j),
+            first: lowered(history, self.revision, self.first, j),
         }
     }
 }

@@ -1,22 +1,22 @@
 //! One step back from a place of a text.
 
-// The lines `let _count = ..` and `let _image = ..` are for the proof: the image's
-// records are true, and its texts a sound table, as these calls say.
+// The lines `let _count = ..` are for the proof: the history's records
+// are true, and its texts a sound table, as these calls say.
 
 ghost use Rattle.std.specs.Prelude.{◌≡◌, ◌+◌, ◌^◌, ◌<◌, ◌≤◌, length, MatchOption, Some};
 ghost use Rattle.rope_node.specs.declared.limits.TheConstants.{TEXT_LIMIT};
-ghost use Rattle.image_reader.specs.Accepted.{revision_at, splices_before};
+ghost use Rattle.image_reader.specs.Accepted.{command_at, splices_before};
+ghost use Rattle.command_parts.specs.Commands.{full_edit, NamesSplices};
 ghost use Rattle.command_parts.specs.Parts.{part_at, part_len, IsPart};
 ghost use Rattle.byte_origins.specs.EarlierTexts.{len_of_text, texts_parts, texts_table};
 ghost use Rattle.byte_origins.specs.SplicedTexts.{IsPlaceBeside, one_splice, spliced_of};
 ghost use Rattle.byte_origins.specs.StepsBack.{came_len, IsStepBack, run_of, step_back, taken_of};
 
+use crate::history::History;
 use crate::run::{Brought, Origin, OriginRun};
 use crate::texts::{TextsBefore, len_of_text};
 use command_parts::{Edit, Part, PartIter, Splice, Splices, parts};
-use image_reader::Revisions;
-use rope_node::{NodeSpace, rope_len};
-use session_checker::Checked;
+use rope_node::NodeSpace;
 
 /// Where the bytes from a place on come from, as far as one part of the text goes.
 #[derive(Clone, Copy, Debug, PartialEq, Eq)]
@@ -69,8 +69,13 @@ fn run_of(k: u32, place: u64, brought: Brought, len: u64) -> CameFrom
 }
 
 /// What the bytes at `place` of text `k` are, where that stands `off` bytes inside this part.
-pub(crate) fn taken_of(texts: &TextsBefore, place: u64, part: Part, off: u64) -> CameFrom
-    requires part { IsPart (texts_table texts.now.image.now texts.now.k) part }
+pub(crate) fn taken_of<H: History>(
+    texts: &TextsBefore<H>,
+    place: u64,
+    part: Part,
+    off: u64,
+) -> CameFrom
+    requires part { IsPart (texts_table (H.image texts.now.history) texts.now.k) part }
     requires inside { off < part_len part }
     ensures { result ≡ taken_of texts.now.k place part off }
 {
@@ -89,59 +94,59 @@ pub(crate) fn taken_of(texts: &TextsBefore, place: u64, part: Part, off: u64) ->
     }
 }
 
-/// The parts of `edit`, the command of text `k`, over the texts before it.
-fn edit_parts<'p, 'i, 'a>(
-    image: &Checked,
-    revisions: &'p Revisions<'i, 'a>,
+/// The parts of `edit`, the command of text `k`, over the texts before it. It names its splices among these.
+fn edit_parts<'p, H: History>(
+    history: H,
+    splices: &'p H::Listed,
     k: u32,
     edit: &Edit,
-) -> PartIter<'p, Revisions<'i, 'a>>
-    requires same { revisions.now ≡ image.now }
-    requires there { k < length image.now.revisions }
-    requires edit { edit.now ≡ (revision_at image.now k).edit }
-    ensures { result ≡ texts_parts image.now k }
+) -> PartIter<'p, H::Listed>
+    requires same { H.Listed.splices splices.now ≡ H.listed history k }
+    requires there { k < length (H.image history).revisions }
+    requires says { full_edit (H.listed history k) edit.now ≡ command_at (H.image history) k }
+    requires names { NamesSplices (H.listed history k) edit.now }
+    ensures { result ≡ texts_parts (H.image history) k }
 {
-    let _count = image.revisions();
-    let _image = revisions.count();
-    let texts = TextsBefore::of(image, k);
-    parts(&texts, &texts, revisions, edit)
+    let _count = history.revision_count();
+    let texts = TextsBefore::of(history, k);
+    parts(&texts, &texts, splices, edit)
 }
 
 /// The parts of the command of text `k` over the texts before it, where the revisions before it have `first` splices.
-pub(crate) fn command_parts<'p, 'i, 'a>(
-    image: &Checked,
-    revisions: &'p Revisions<'i, 'a>,
+pub(crate) fn command_parts<'p, H: History>(
+    history: H,
+    splices: &'p H::Listed,
     k: u32,
     first: u32,
-) -> PartIter<'p, Revisions<'i, 'a>>
-    requires same { revisions.now ≡ image.now }
-    requires there { k < length image.now.revisions }
-    requires first { first ≡ splices_before image.now k }
-    ensures { result ≡ texts_parts image.now k }
+) -> PartIter<'p, H::Listed>
+    requires same { H.Listed.splices splices.now ≡ H.listed history k }
+    requires there { k < length (H.image history).revisions }
+    requires first { first ≡ splices_before (H.image history) k }
+    ensures { result ≡ texts_parts (H.image history) k }
 {
-    let revision = revisions.revision(k, first);
-    edit_parts(image, revisions, k, &revision.edit)
+    let edit = history.command(k, first);
+    edit_parts(history, splices, k, &edit)
 }
 
 /// What the bytes at `place` of text `k` are, by the parts of `edit`, its command. How many of them it went through is
 /// added to `passed`.
-fn taken_by_parts(
-    image: &Checked,
-    revisions: &Revisions,
+fn taken_by_parts<H: History>(
+    history: H,
     k: u32,
     edit: Edit,
     place: u64,
     passed: &mut u64,
 ) -> CameFrom
-    requires same { revisions.now ≡ image.now }
-    requires there { k < length image.now.revisions }
-    requires edit { edit ≡ (revision_at image.now k).edit }
-    requires inside { place < len_of_text image.now k }
-    ensures { step_back image.now k place ≡ Some result }
+    requires there { k < length (H.image history).revisions }
+    requires says { full_edit (H.listed history k) edit ≡ command_at (H.image history) k }
+    requires names { NamesSplices (H.listed history k) edit }
+    requires inside { place < len_of_text (H.image history) k }
+    ensures { step_back (H.image history) k place ≡ Some result }
 {
-    let _count = image.revisions();
-    let texts = TextsBefore::of(image, k);
-    match held(edit_parts(image, revisions, k, &edit), place, passed) {
+    let _count = history.revision_count();
+    let splices = history.splices(k);
+    let texts = TextsBefore::of(history, k);
+    match held(edit_parts(history, &splices, k, &edit), place, passed) {
         Some((part, off)) => taken_of(&texts, place, part, off),
         None => unreachable!(),
     }
@@ -187,12 +192,12 @@ pub(crate) fn place_beside(splice: Splice, place: u64, len: u64) -> Option<u64>
 /// What the bytes at `place` of text `k` are, whose command puts a splice into text `r`. Only behind the splice does it
 /// matter how long that text is.
 #[inline(always)]
-fn spliced(image: &Checked, k: u32, place: u64, r: u32, splice: Splice) -> CameFrom
-    requires there { r < length image.now.revisions }
-    requires fits { splice.p + splice.m ≤ len_of_text image.now r }
+fn spliced<H: History>(history: H, k: u32, place: u64, r: u32, splice: Splice) -> CameFrom
+    requires there { r < length (H.image history).revisions }
+    requires fits { splice.p + splice.m ≤ len_of_text (H.image history) r }
     requires pool { splice.a + splice.n < 2 ^ 64 }
-    requires inside { place + splice.m < len_of_text image.now r + splice.n }
-    ensures { result ≡ spliced_of (len_of_text image.now r) k place r splice }
+    requires inside { place + splice.m < len_of_text (H.image history) r + splice.n }
+    ensures { result ≡ spliced_of (len_of_text (H.image history) r) k place r splice }
 {
     let Splice { p, m, a, n } = splice;
     if place < p {
@@ -202,45 +207,44 @@ fn spliced(image: &Checked, k: u32, place: u64, r: u32, splice: Splice) -> CameF
     if off < n {
         return run_of(k, place, Brought::Pool { a: a + off }, n - off);
     }
-    let len = len_of_text(image, r);
+    let len = len_of_text(history, r);
     let i = p + m + (off - n);
     CameFrom::FromText(r, i, len - i)
 }
 
 /// What the bytes at `place` of text `k` are, where the revisions before it have `first` splices: one step back.
-pub fn taken(image: &Checked, k: u32, first: u32, place: u64) -> CameFrom
-    requires there { k < length image.now.revisions }
-    requires first { first ≡ splices_before image.now k }
-    requires inside { place < len_of_text image.now k }
-    ensures step { IsStepBack image.now k place result }
-    ensures exact { step_back image.now k place ≡ Some result }
+pub fn taken<H: History>(history: H, k: u32, first: u32, place: u64) -> CameFrom
+    requires there { k < length (H.image history).revisions }
+    requires first { first ≡ splices_before (H.image history) k }
+    requires inside { place < len_of_text (H.image history) k }
+    ensures step { IsStepBack (H.image history) k place result }
+    ensures exact { step_back (H.image history) k place ≡ Some result }
 {
     let mut passed = 0;
-    taken_counted(image, k, first, place, &mut passed)
+    taken_counted(history, k, first, place, &mut passed)
 }
 
 /// The same. How many parts of the command it went through is added to `passed`.
-pub(crate) fn taken_counted(
-    image: &Checked,
+pub(crate) fn taken_counted<H: History>(
+    history: H,
     k: u32,
     first: u32,
     place: u64,
     passed: &mut u64,
 ) -> CameFrom
-    requires there { k < length image.now.revisions }
-    requires first { first ≡ splices_before image.now k }
-    requires inside { place < len_of_text image.now k }
-    ensures step { IsStepBack image.now k place result }
-    ensures exact { step_back image.now k place ≡ Some result }
+    requires there { k < length (H.image history).revisions }
+    requires first { first ≡ splices_before (H.image history) k }
+    requires inside { place < len_of_text (H.image history) k }
+    ensures step { IsStepBack (H.image history) k place result }
+    ensures exact { step_back (H.image history) k place ≡ Some result }
 {
-    let _count = image.revisions();
-    let revisions = Revisions::over(image.image());
-    let revision = revisions.revision(k, first);
-    match one_splice(revision.edit) {
+    let _count = history.revision_count();
+    let edit = history.command(k, first);
+    match one_splice(edit) {
         Some((r, splice)) => {
             *passed = passed.saturating_add(1);
-            spliced(image, k, place, r, splice)
+            spliced(history, k, place, r, splice)
         }
-        None => taken_by_parts(image, &revisions, k, revision.edit, place, passed),
+        None => taken_by_parts(history, k, edit, place, passed),
     }
 }

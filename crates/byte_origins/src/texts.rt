@@ -1,6 +1,6 @@
 //! The texts before a revision, each as one leaf of its length.
 
-// The lines `let _count = image.revisions();` are for the proof: the image's records are true, as this call says.
+// The lines `let _count = ..` are for the proof: the history's records are true, as this call says.
 // `let _ = id;`: each text is a leaf of a function, so the answer is the same for each.
 
 ghost use Rattle.std.specs.Prelude.{◌≡◌, ◌<◌, ◌≤◌, length};
@@ -9,66 +9,66 @@ ghost use Rattle.rope_node.specs.Table.{IsSound, HasTrueRecords};
 ghost use Rattle.session_checker.specs.Faithful.{HasTrueRecordsOf};
 ghost use Rattle.byte_origins.specs.EarlierTexts.{len_of_text, texts_table, texts_roots};
 
+use crate::history::History;
 use command_parts::Roots;
 use rope_node::{NodeId, NodeSpace, NodeView, Rope, rope_len};
-use session_checker::Checked;
 
 /// How long text `r` is.
 #[inline(always)]
-pub(crate) fn len_of_text(image: &Checked, r: u32) -> u64
-    requires { r < length image.now.revisions }
-    ensures value { result ≡ len_of_text image.now r }
+pub(crate) fn len_of_text<H: History>(history: H, r: u32) -> u64
+    requires { r < length (H.image history).revisions }
+    ensures value { result ≡ len_of_text (H.image history) r }
     ensures limit { result < TEXT_LIMIT }
 {
-    let _count = image.revisions();
-    rope_len(image, image.image().root(r))
+    let _count = history.revision_count();
+    rope_len(history.space(), history.root_of(r))
 }
 
-/// The texts of an image's revisions before revision `k`. Node `j` is text `j`, whatever its bytes are.
+/// The texts of a history's revisions before revision `k`. Node `j` is text `j`, whatever its bytes are.
 #[derive(Drop)]
-pub(crate) struct TextsBefore<'i, 'a> {
-    pub(crate) image: &'i Checked<'a>,
+pub(crate) struct TextsBefore<H: History> {
+    pub(crate) history: H,
     pub(crate) k: u32,
-    ghost inside: { k ≤ length image.now.revisions },
+    ghost inside: { k ≤ length (H.image history).revisions },
 }
 
-impl<'i, 'a> TextsBefore<'i, 'a> {
-    /// Those before revision `k` of an image.
-    pub(crate) fn of(image: &'i Checked<'a>, k: u32) -> TextsBefore<'i, 'a>
-        requires { k ≤ length image.now.revisions }
-        ensures image { result.image.now ≡ image.now }
+impl<H: History> TextsBefore<H> {
+    /// Those before revision `k` of a history.
+    pub(crate) fn of(history: H, k: u32) -> TextsBefore<H>
+        requires { k ≤ length (H.image history).revisions }
+        ensures image { H.image result.history ≡ H.image history }
         ensures k { result.k ≡ k }
-        ensures sound { IsSound (texts_table image.now k) }
-        ensures true_records { HasTrueRecords (texts_table image.now k) }
-        ensures image_records { HasTrueRecordsOf image.now }
+        ensures sound { IsSound (texts_table (H.image history) k) }
+        ensures true_records { HasTrueRecords (texts_table (H.image history) k) }
+        ensures image_records { HasTrueRecordsOf (H.image history) }
     {
-        let _count = image.revisions();
-        TextsBefore { image, k }
+        let _count = history.revision_count();
+        TextsBefore { history, k }
     }
 
     /// How long text `j` is.
     fn len_of_text(&self, j: u32) -> u64
         requires { j < self.now.k }
-        ensures value { result ≡ len_of_text self.now.image.now j }
+        ensures value { result ≡ len_of_text (H.image self.now.history) j }
         ensures limit { result < TEXT_LIMIT }
-        ensures sound { IsSound (texts_table self.now.image.now self.now.k) }
-        ensures true_records { HasTrueRecords (texts_table self.now.image.now self.now.k) }
+        ensures sound { IsSound (texts_table (H.image self.now.history) self.now.k) }
+        ensures true_records { HasTrueRecords (texts_table (H.image self.now.history) self.now.k) }
     {
-        let _count = self.image.revisions();
-        len_of_text(self.image, j)
+        let _count = self.history.revision_count();
+        len_of_text(self.history, j)
     }
 }
 
-impl NodeSpace for TextsBefore<'_, '_> {
-    ghost table = { λ t. texts_table t.image.now t.k };
+impl<H: History> NodeSpace for TextsBefore<H> {
+    ghost table = { λ t. texts_table (H.image t.history) t.k };
 
     fn count(&self) -> u32 {
-        let _count = self.image.revisions();
+        let _count = self.history.revision_count();
         self.k
     }
 
     fn node(&self, id: NodeId) -> NodeView {
-        let _count = self.image.revisions();
+        let _count = self.history.revision_count();
         let _ = id;
         NodeView::Fun
     }
@@ -98,24 +98,24 @@ impl NodeSpace for TextsBefore<'_, '_> {
     }
 
     fn source_count(&self) -> u32 {
-        self.image.source_count()
+        self.history.space().source_count()
     }
 
     fn source_len(&self, s: u32) -> u64 {
-        self.image.source_len(s)
+        self.history.space().source_len(s)
     }
 
     fn pool_len(&self) -> u64 {
-        self.image.pool_len()
+        self.history.space().pool_len()
     }
 
     fn pool(&self, a: u64) -> &[u8] {
-        self.image.pool(a)
+        self.history.space().pool(a)
     }
 }
 
-impl Roots for TextsBefore<'_, '_> {
-    ghost roots = { λ t. texts_roots t.image.now t.k };
+impl<H: History> Roots for TextsBefore<H> {
+    ghost roots = { λ t. texts_roots (H.image t.history) t.k };
 
     fn count(&self) -> usize {
         self.k as usize

@@ -22,7 +22,7 @@ use Rattle.byte_origins.specs.EarlierTexts.{len_of_text}
 use Rattle.byte_origins.proofs.Lengths.{as_long}
 use Rattle.byte_origins.proofs.Standing.{stands_begins, stands_behind, stands_ends, stands_more}
 use Rattle.cord_types.specs.declared.origins.CordOrigin.{CordOrigin}
-use Rattle.cord_c.specs.ToldOrigins.{IsToldOrigin, origin_numbers}
+use Rattle.cord_types.specs.ToldOrigins.{IsToldOrigin, origin_numbers}
 use Rattle.cord_c.specs.OriginRooms.{AreToldOrigins, AreWaiting, FreesSlot, PutsInFront, StandInOrder, TellsFirst, TellsRuns, behind_of, stretch_of, told_end, waiting_numbers, waits}
 
 -- ---- those that wait in a room

@@ -3,5 +3,4 @@ pub mod Verdicts
 pub mod Answers
 pub mod Opened
 pub mod Runs
-pub mod ToldOrigins
 pub mod OriginRooms

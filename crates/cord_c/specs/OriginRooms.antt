@@ -9,7 +9,7 @@ use Rattle.byte_origins.specs.StepsBack.{IsOriginAt}
 use Rattle.byte_origins.specs.Stretches.{StandsFor, stretch_behind}
 use Rattle.cord_types.specs.declared.origins.CordOrigin.{CordOrigin}
 use Rattle.cord_c.specs.declared.waiting.TheConstants.{WAITING}
-use Rattle.cord_c.specs.ToldOrigins.{IsToldOrigin}
+use Rattle.cord_types.specs.ToldOrigins.{IsToldOrigin}
 
 -- ---- what is told
 

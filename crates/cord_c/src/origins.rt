@@ -3,7 +3,7 @@
 ghost use Rattle.std.specs.Prelude.{◌≡◌, ◌↔◌, ◌<◌, false, length, IsTrue};
 ghost use Rattle.byte_origins.specs.Origins.{origins_at};
 ghost use Rattle.cord_c.specs.Opened.{opened_image};
-ghost use Rattle.cord_c.specs.ToldOrigins.{IsToldOrigin};
+ghost use Rattle.cord_types.specs.ToldOrigins.{IsToldOrigin};
 
 use crate::open::CordImage;
 use byte_origins::origin;

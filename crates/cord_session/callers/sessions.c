@@ -1,6 +1,6 @@
 /* sessions SEED COMMANDS [IMAGE SOURCE]: gives a session random commands of all twelve sorts, a tenth of them wrong, and compares each text with
- * plain arrays; then its image is copied out in pieces, checked by cord_check, taken up again, and gone on with. With two more words the
- * image and its source are written as these files, for `cordkit check`. */
+ * plain arrays; then its image is copied out in pieces, checked by cord_check, taken up again, and gone on with, and a byte of each text is
+ * traced back. With two more words the image and its source are written as these files, for `cordkit check`. */
 #include "../cord_session.h"
 #include <stdio.h>
 #include <stdlib.h>
@@ -198,6 +198,17 @@ static void told(struct cord_session *session, uint32_t k, const struct cord_com
     CHECK(cord_session_edit(session, count, &edit) == CORD_NO_REVISION && memcmp(&edit, &wanted, sizeof edit) == 0);
 }
 
+/* The byte at a place, and those that came in with it, stood where its origin says; the session's image tells the same. */
+static void traced(struct cord_session *session, const struct cord_image *image, uint32_t k) {
+    size_t len = text[k].len, i = below(len + 2);
+    struct cord_origin origin = {0}, other = {0};
+    CHECK(cord_session_origin(session, k, i, &origin) == (i < len ? CORD_DONE : CORD_RANGE));
+    CHECK(cord_origin(image, k, i, &other) == (i < len) && memcmp(&origin, &other, sizeof origin) == 0);
+    if (i >= len) return;
+    CHECK(origin.len >= 1 && origin.len <= len - i && origin.revision <= k && origin.place + origin.len <= text[origin.revision].len);
+    CHECK(memcmp(text[origin.revision].bytes + origin.place, text[k].bytes + i, origin.len) == 0);
+}
+
 static void write_file(const char *name, const uint8_t *bytes, size_t len) {
     FILE *file = fopen(name, "wb");
     CHECK(file && fwrite(bytes, 1, len, file) == len && fclose(file) == 0);
@@ -248,6 +259,11 @@ int main(int argc, char **argv) {
         CHECK(cord_session_saved(&session, done, image + done, room < len - done ? room : len - done, &got) == CORD_DONE);
     }
     CHECK(done == len && cord_check(image, len, &source, 1, &checked) && checked.revisions == count);
+    struct cord_image opened = CORD_IMAGE_NONE;
+    struct cord_origin origin = {0};
+    CHECK(cord_open(image, len, &source, 1, &opened, &checked));
+    for (uint32_t k = 0; k < count; k++) traced(&session, &opened, k);
+    CHECK(cord_session_origin(&session, count, 0, &origin) == CORD_NO_REVISION && origin.len == 0);
     CHECK(cord_session_forget(&session) == CORD_DONE && cord_session_saved(&session, 0, image, len, &got) == CORD_DONE && got == 0);
     CHECK(cord_session_resume(&again, image, len, &source, 1, &verdict) == CORD_DONE && memcmp(&verdict, &checked, sizeof verdict) == 0);
     for (uint32_t k = 0; k < count; k++) same_text(&again, &source, k, text[k].bytes, text[k].len);

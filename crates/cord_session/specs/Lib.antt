@@ -5,3 +5,4 @@ pub mod Sessions
 pub mod Asked
 pub mod Images
 pub mod Edits
+pub mod Origins

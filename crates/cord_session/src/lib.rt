@@ -14,10 +14,11 @@ mod searching;
 mod slot;
 mod store_asking;
 mod store_making;
+mod tracing;
 
 pub use commands::CordCommand;
 pub use cord_store::CordStore;
-pub use cord_types::{CordRun, CordSource, CordVerdict};
+pub use cord_types::{CordOrigin, CordRun, CordSource, CordVerdict};
 pub use edits::{CordEdit, cord_session_edit};
 pub use exports::{
     CordSizes, cord_session_add_source, cord_session_apply, cord_session_begin, cord_session_end,
@@ -35,3 +36,4 @@ pub use store_making::{
     cord_store_bytes, cord_store_cat, cord_store_end, cord_store_function, cord_store_source,
     cord_store_substr,
 };
+pub use tracing::cord_session_origin;

@@ -299,3 +299,53 @@ fn a_way_leads_down_to_a_leaf(rt: HostRuntime) {
         );
     }
 }
+
+/// Each place of these texts has this origin, or none, while the session is open.
+fn assert_open<A: Abort>(rt: &A, session: &Session, wanted: &[(u32, u64, Option<OriginRun>)]) {
+    for (k, place, run) in wanted {
+        let found = session_origins::origin(session, *k, *place);
+        assert_same_at(rt, &found, run, &(*k, *place));
+    }
+}
+
+#[test]
+fn an_open_session_tells_where_its_bytes_come_from(rt: HostRuntime) {
+    assert_open(
+        &rt,
+        &brown_fox(&rt),
+        &[
+            (2, 0, Some(of_pool(1, 0, 0, 4))),
+            (2, 5, Some(of_pool(2, 5, 8, 5))),
+            (2, 12, Some(of_pool(1, 6, 6, 1))),
+            (2, 13, None),
+            (1, 2, Some(of_pool(1, 2, 2, 5))),
+            (0, 0, None),
+            (3, 0, None),
+        ],
+    );
+}
+
+/// `aXdYZe`, and then `XdYZ`: the splices of the last command are not the first ones.
+#[test]
+fn an_open_session_goes_back_over_many_changes(rt: HostRuntime) {
+    let mut session = three_changes(&rt);
+    let ends_cut = Command::Many {
+        r: 2,
+        changes: &[Change { p: 0, m: 1, n: 0 }, Change { p: 5, m: 1, n: 0 }],
+        bytes: b"",
+    };
+    assert_same(&rt, &made(&rt, &mut session, ends_cut), &3);
+    assert_open(
+        &rt,
+        &session,
+        &[
+            (2, 0, Some(of_pool(1, 0, 0, 1))),
+            (2, 4, Some(of_pool(2, 4, 13, 1))),
+            (2, 5, Some(of_pool(1, 4, 4, 1))),
+            (3, 0, Some(of_pool(2, 1, 6, 1))),
+            (3, 1, Some(of_pool(1, 3, 3, 1))),
+            (3, 2, Some(of_pool(2, 3, 12, 2))),
+            (3, 4, None),
+        ],
+    );
+}

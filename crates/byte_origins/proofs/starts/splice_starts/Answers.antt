@@ -5,8 +5,8 @@ use Rattle.image_reader.specs.Accepted.{splices_before}
 use Rattle.byte_origins.proofs.starts.splice_starts.Goals as goal
 
 pub loop-r-preserved : goal.loop-r-preserved
-loop-r-preserved c =
-    let v = c.args.image.now in
+loop-r-preserved g c =
+    let v = g.H.History.image c.args.history in
     let r = c.loop-r.r in
     let starts = map (splices_before v) (range_with_len 0 r) in
     let more = map-range_with_len_more (splices_before v) 0 r r (omega arith) in

@@ -2,7 +2,7 @@ use Rattle.byte_origins.proofs.EarlierTexts.{texts_sound, texts_true}
 use Rattle.byte_origins.proofs.texts.TextsBefore.len_of_text.Goals as goal
 
 pub returns-clause-sound : goal.returns-clause-sound
-returns-clause-sound c = texts_sound c.args.self.now.image.now c.args.self.now.k c.args.self.now.inside c.revisions-count.ensures.true_records
+returns-clause-sound g c = texts_sound (g.H.History.image c.args.self.now.history) c.args.self.now.k c.args.self.now.inside c.revision_count-count.ensures.true_records
 
 pub returns-clause-true_records : goal.returns-clause-true_records
-returns-clause-true_records c = texts_true c.args.self.now.image.now c.args.self.now.k c.args.self.now.inside c.revisions-count.ensures.true_records
+returns-clause-true_records g c = texts_true (g.H.History.image c.args.self.now.history) c.args.self.now.k c.args.self.now.inside c.revision_count-count.ensures.true_records
