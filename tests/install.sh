@@ -343,7 +343,8 @@ try_library() {
     printf 'new\ninsert 0 0 "the fox"\ninsert 1 4 "brown "\n' > script
     "$prefix/bin/cordkit" apply script > fox.cord
     if [ -f "$library" ]; then try_c_library; fi
-    if [ -f "$sessions" ]; then try_session_library; fi
+    # Its shared library stands there once archive.sh has put malloc's calls into the archive.
+    if [ -f "${sessions%.a}.so" ]; then try_session_library; fi
     if [ -f "${library%.a}.so" ]; then try_python_module; fi
 }
 
