@@ -1,6 +1,6 @@
 //! What a journal begins with: which session it belongs to, and what it keeps.
 
-ghost use Rattle.std.specs.Prelude.{◌≡◌, ◌↔◌, ◌≤◌, IfOk, IsTrue, length};
+ghost use Rattle.std.specs.Prelude.{◌≡◌, ◌↔◌, ◌≤◌, IfOk, IsTrue, drop, length};
 ghost use Rattle.session_server.specs.Fronts.{lines_front};
 ghost use Rattle.session_files.specs.declared.journal_front.Kind.TheVariants.{Keys, Lines};
 ghost use Rattle.session_files.specs.declared.journal_front.Standing.TheVariants.{Kept, Other, Torn};
@@ -77,7 +77,9 @@ impl Front {
     }
 
     /// Its bytes from a place on.
-    pub fn behind(&self, place: usize) -> &[u8] {
+    pub fn behind(&self, place: usize) -> &[u8]
+        ensures { result.now ≡ drop place self.now.bytes.items }
+    {
         self.bytes.get(place..).unwrap_or(&[])
     }
 
@@ -107,7 +109,11 @@ impl Front {
 
     /// Whether nothing is kept in a file of these bytes: it ends with the front of a session, or within one.
     pub fn keeps_nothing(&self, bytes: &[u8]) -> bool
-        ensures { IsTrue result → length bytes.now ≤ length self.now.bytes.items }
+        ensures short { IsTrue result → length bytes.now ≤ length self.now.bytes.items }
+        ensures bare { length bytes.now ≤ length self.now.bytes.items
+            → KeepsBehindFront self.now.kind self.now.bytes.items bytes.now → IsTrue result }
+        ensures torn { length bytes.now ≤ length self.now.bytes.items
+            → IsPartOfFront self.now.kind self.now.bytes.items bytes.now → IsTrue result }
     {
         let begins = match self.kind {
             Kind::Keys => FRONT_OF_KEYS,
@@ -118,7 +124,10 @@ impl Front {
     }
 
     /// Whether what was set aside are lines over another image.
-    pub fn is_of_older_lines(&self, kept: &[u8]) -> bool {
+    pub fn is_of_older_lines(&self, kept: &[u8]) -> bool
+        ensures lines { IsTrue result → self.now.kind ≡ Lines }
+        ensures older { IsTrue result → KeepsBehindFront self.now.kind self.now.bytes.items kept.now → ⊥ }
+    {
         match self.kind {
             Kind::Keys => false,
             Kind::Lines => kept.starts_with(FRONT_OF_LINES)
